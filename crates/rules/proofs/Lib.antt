@@ -1,0 +1,6 @@
+pub mod Overlap
+pub mod Nodes
+pub mod Sound
+pub mod Area
+pub mod Codec
+pub mod Cases
