@@ -1,4 +1,7 @@
 // The words of the room as types: node, ballot, row and tube, a stored message, a stored cell and the house record.
+ghost use mathlib.Core.Path.{_≡_};
+ghost use Rattle.rules.specs.Words.{fresh};
+ghost use Rattle.rules.specs.Lent.{storedCell};
 
 // A node number, from 0.
 pub struct Node(pub u8);
@@ -52,6 +55,22 @@ pub struct Cell {
     pub maxvval: u8,
     pub count: u8,
     pub pairs: [u8; 32],
+}
+
+impl Cell {
+    // A cell as opening sets it: 255, 255, 0, 0 and zero pairs.
+    pub fn fresh() -> Self
+        ensures { λ r. ⌜ r ≡ storedCell fresh ⌝ }
+    {
+        let none = [0u8; 32];
+        Cell {
+            maxbal: Ballot::NONE,
+            maxvbal: Ballot::NONE,
+            maxvval: Tube::NONE,
+            count: 0,
+            pairs: none,
+        }
+    }
 }
 
 // The house record: tables, counts, intake and foreign marks.
