@@ -12,12 +12,13 @@ use Rattle.rules.specs.Book.{bookOf, waitingOf, stopped}
 use Rattle.rules.specs.Replies.{reply, after, runs, openReply, opening, houseOf}
 
 -- a case: what opening a room replies; what calls after an opening reply, one after another; which tubes are known safe
--- to a node in a row and ballot after them; which book, waiting tubes and stop they leave
+-- to a node in a row and ballot after them; which book, waiting tubes and stop they leave; which nodes they leave marked
 pub data Case : Type 0 where
   opens : Room → ℕ → Case
   replies : Room → List Call → List ℕ → Case
   safe : Room → List Call → (row node bal : ℕ) → List ℕ → Case
   books : Room → List Call → List ℕ → List ℕ → ℕ → Case
+  marks : Room → List Call → ℕ → Case
 
 -- lent memory of the right lengths, full of junk
 unfoldable pub lent : Room → Memory
@@ -40,6 +41,7 @@ right (opens ρ k) = eqb (openReply ρ (lent ρ)) k
 right (replies ρ cs ks) = eqs (repliesOf (start ρ) cs) ks
 right (safe ρ cs r n b vs) = let s = read (runs (start ρ) cs) in eqs (keep (known ρ s r n b) (upTo 64)) vs
 right (books ρ cs bs ws w) = let s = read (runs (start ρ) cs) in eqs (bookOf ρ s) bs && (eqs (waitingOf ρ s) ws && eqb (stopped ρ s) w)
+right (marks ρ cs k) = eqb (runs (start ρ) cs .house .marks) k
 
 -- ---- rooms and runs of calls
 
@@ -112,4 +114,12 @@ cases =
     ∷ replies (single 0 1 1) (c1a 1 0 ∷ c1a 1 0 ∷ c1a 1 1 ∷ []) (0 ∷ 0 ∷ 15 ∷ [])
     -- 13. Rows hold tube 1, tube 1, none, tube 2, and two were scanned: book 1, void; tube 2 waits.
     ∷ books (single 0 4 16) (scan 3 70 ∷ scan 4 70 ∷ (booked 1 0 1 ++ (booked 2 5 1 ++ booked 4 10 2))) (1 ∷ 0 ∷ []) (2 ∷ []) 1
+    -- Our own, for the slips. Relays of several tubes do not make up a quorum: 12 until a third node relays tube 1.
+    ∷ replies four (scan 3 70 ∷ scan 4 70 ∷ foreign (p2av 1 0 0 1) ∷ foreign (p2av 1 0 1 1) ∷ foreign (p2av 1 0 2 2) ∷ c2b 1 3 0 1 ∷ foreign (p2av 1 0 2 1) ∷ c2b 1 3 0 1 ∷ [])
+    (0 ∷ 0 ∷ 0 ∷ 0 ∷ 0 ∷ 12 ∷ 0 ∷ 0 ∷ [])
+    -- Votes for several tubes do not make up a quorum: the row is unchosen, both tubes wait.
+    ∷ books four (scan 3 70 ∷ scan 4 70 ∷ foreign (p2b 1 0 0 1) ∷ foreign (p2b 1 0 1 1) ∷ foreign (p2b 1 0 2 2) ∷ []) [] (1 ∷ 2 ∷ []) 1
+    -- A refused foreign post marks nobody, an accepted one its node; one already there does too.
+    ∷ marks (single 0 1 1) (scan 3 70 ∷ c1a 1 0 ∷ foreign (p2av 1 0 0 1) ∷ []) 0
+    ∷ marks (single 0 1 1) (scan 3 70 ∷ foreign (p2av 1 0 0 1) ∷ []) 1
     ∷ []
