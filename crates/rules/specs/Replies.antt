@@ -11,6 +11,12 @@ use Rattle.rules.specs.Lent.{Memory, patch, pairsOf, pairBytes, encode, 
 use Rattle.rules.specs.Steps.{Post, p1b, p2av, p2b, other, Call, scan, c1a, c1b, c1c, c2av, c2b, hear, foreign, ask, book, has, fits, scannedIn, tubeFor, told, without, posted, relayed, known, Effect, stays, effect, write}
 use Rattle.rules.specs.Book.{outcome, tubeOf, isSplit, bookOf, waitingOf, stopped}
 use Rattle.rules.specs.declared.House.{House}
+use Rattle.rules.specs.declared.Refusal.{Refusal}
+use Rattle.rules.specs.declared.Refusal.the-variants.{CountOutside, AbsentNode, SmallOverlap, SmallWeak, ShortArea, OutsideLimits, NotOnIntake, LowBallot, NotAsked, RelayedAlready, NotKnownSafe, NoQuorum, NoPromise, PairsFull, BoardFull, IntakeFull, NotInForm, SplitRow, Malformed}
+use Rattle.rules.specs.declared.Stop.{Stop}
+use Rattle.rules.specs.declared.Stop.the-variants.{RowsEnded, Unchosen, Split}
+use Rattle.rules.specs.declared.Reply.{Reply}
+use Rattle.rules.specs.declared.Reply.the-variants.{Done, Told, Booked, Refused}
 
 -- ---- 6 and 7
 
@@ -122,6 +128,40 @@ bare k = record { number = k; value = 0; waiting = 0; stopped = 0 }
 
 abbrev pub valued : ℕ → Answer
 valued v = record { number = 0; value = v; waiting = 0; stopped = 0 }
+
+-- ---- the paper's number and values for each case of the reply
+
+abbrev pub numberOf : Refusal → ℕ
+numberOf CountOutside = 1
+numberOf AbsentNode = 2
+numberOf SmallOverlap = 3
+numberOf SmallWeak = 4
+numberOf ShortArea = 5
+numberOf OutsideLimits = 6
+numberOf NotOnIntake = 7
+numberOf LowBallot = 8
+numberOf NotAsked = 9
+numberOf RelayedAlready = 10
+numberOf NotKnownSafe = 11
+numberOf NoQuorum = 12
+numberOf NoPromise = 13
+numberOf PairsFull = 14
+numberOf BoardFull = 15
+numberOf IntakeFull = 16
+numberOf NotInForm = 17
+numberOf SplitRow = 18
+numberOf Malformed = 19
+
+abbrev pub stopOf : Stop → ℕ
+stopOf RowsEnded = 0
+stopOf Unchosen = 1
+stopOf Split = 2
+
+abbrev pub answerOf : Reply → Answer
+answerOf Done = bare 0
+answerOf (Told t) = valued (t .0)
+answerOf (Booked n w k) = record { number = 0; value = n; waiting = w; stopped = stopOf k }
+answerOf (Refused x) = bare (numberOf x)
 
 -- the answer of an accepted call
 unfoldable pub tell : Room → State → Call → Answer

@@ -89,3 +89,41 @@ pub struct House {
     pub marks: u8,
     pub count: u16,
 }
+
+// What a call refuses, in the order of the paper's numbers 1 to 19.
+pub enum Refusal {
+    CountOutside,
+    AbsentNode,
+    SmallOverlap,
+    SmallWeak,
+    ShortArea,
+    OutsideLimits,
+    NotOnIntake,
+    LowBallot,
+    NotAsked,
+    RelayedAlready,
+    NotKnownSafe,
+    NoQuorum,
+    NoPromise,
+    PairsFull,
+    BoardFull,
+    IntakeFull,
+    NotInForm,
+    SplitRow,
+    Malformed,
+}
+
+// Why the book stopped.
+pub enum Stop {
+    RowsEnded,
+    Unchosen,
+    Split,
+}
+
+// What a call replies: done, done with a tube, the book's figures, or a refusal.
+pub enum Reply {
+    Done,
+    Told(Tube),
+    Booked { rows: u8, waiting: u8, stop: Stop },
+    Refused(Refusal),
+}
