@@ -1,2 +1,3 @@
 pub mod Sim
 pub mod Ready
+pub mod Keep

@@ -8,11 +8,11 @@ use lib.Dec.{eqb}
 use lib.ListN.{length, set}
 use Rattle.rules.specs.Tests.{pick, bit}
 use Rattle.rules.specs.Words.{Msg, Cell, Room, State}
-use Rattle.rules.specs.Lent.{Memory, patch, bytesOf, stored, boardOf, meaningCell, storedCell, house, raised, marked, roomOf, read}
+use Rattle.rules.specs.Lent.{Memory, patch, bytesOf, stored, boardOf, flatten, encode, meaningCell, storedCell, house, raised, marked, roomOf, read}
 use Rattle.rules.specs.Steps.{has, scannedIn, Effect, stays, scans, sends, acts, hears, posts, send, withCell, withMark, put, post, writeCell, write}
 use Rattle.rules.proofs.Nodes.{mark-bit}
 use Rattle.rules.proofs.Area.{length-patch}
-use Rattle.rules.proofs.Codec.{Small, msg-long, board-grows, At, cells-set, heard-set, intake-grows}
+use Rattle.rules.proofs.Codec.{Small, length-fit, msg-long, board-grows, At, cells-set, heard-set, intake-grows}
 
 -- ---- what is needed of memory, and of an effect
 
@@ -41,6 +41,10 @@ Ready m (posts x n) = Sendable m x
 -- the bytes of a stored message
 pub length-bytes : (x : Msg) → length (bytesOf (stored x)) ≡ 40
 length-bytes x = ap (λ (t : ℕ). suc (suc (suc (suc (suc (suc (suc (suc t)))))))) (msg-long x)
+
+-- and of a stored cell
+pub length-cell : (c : Cell) → length (encode (storedCell c)) ≡ 36
+length-cell c = ap (λ (t : ℕ). suc (suc (suc (suc t)))) (length-fit 32 (flatten (c .pairs)))
 
 module _ (m : Memory) (z : Sized m) where
   abbrev B : List Msg
