@@ -1,3 +1,4 @@
 pub mod Sim
 pub mod Ready
 pub mod Keep
+pub mod Good
