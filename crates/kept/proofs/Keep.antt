@@ -10,15 +10,15 @@ use borrow.Author.Tests.{eqb-true, lt-ltb}
 use lib.Bits.{bitOr, or-lt}
 use lib.Pow.{pow-lt}
 use lib.Dec.{T, eqb, leb, ltb, leb→le, ltb→lt, eqb→eq, eqb-refl, le→leb, lt→ltb}
-use lib.ListN.{length, take, set}
-use Rattle.rules.specs.Tests.{pick, any, all, allBelow, distinct, eqs, first}
+use lib.ListN.{length, take}
+use Rattle.rules.specs.Tests.{any, all, allBelow, distinct, eqs, first}
 use Rattle.rules.specs.Words.{Pair, Msg, m1a, m1b, m1c, m2av, m2b, rawOf, samePairs, sameMsg, Cell, Room}
-use Rattle.rules.specs.Lent.{Memory, window, patch, bytesOf, stored, boardOf, encode, cellAt, meaningCell, storedCell, flatten, place, heardAt, setBit, house, raised, marked, roomOf, read, tables, pairsIn, limits, scanned, plainMsg, goodMsg, plainCell, goodCell, cellForm, is1bAt, sameScan, houseForm, boardForm, cellsForm, bitForm, heardForm}
+use Rattle.rules.specs.Lent.{Memory, window, patch, bytesOf, stored, boardOf, encode, cellAt, meaningCell, storedCell, flatten, place, heardAt, setBit, house, marked, roomOf, read, tables, pairsIn, limits, scanned, plainMsg, goodMsg, plainCell, goodCell, cellForm, is1bAt, sameScan, houseForm, boardForm, cellsForm, bitForm, heardForm}
 use Rattle.rules.specs.Steps.{has, scannedIn, Effect, stays, scans, sends, acts, hears, posts, post, writeCell, write}
 use Rattle.rules.proofs.Sound.{and-l, and-r, or-cases, or-l, or-r, same-msg}
 use Rattle.rules.proofs.Area.{patch-same, patch-below, patch-above, cell-put, cell-kept}
 use Rattle.rules.proofs.Codec.{msg-back, msg-long, length-fit, board-grows, At, place-in, order, heard-set, intake-grows, msg-put, msg-kept, any-last, or-no}
-use Rattle.kept.proofs.Sim.{Sized, Sendable, Ready, length-bytes, length-cell, post-sized, post-room}
+use Rattle.kept.proofs.Sim.{Sized, Sendable, Ready, length-bytes, length-cell, added, entered, post-by, scan-by, room-for, post-sized, post-room}
 use Rattle.kept.proofs.Ready.{Form, all-below}
 
 -- ---- tests over lists
@@ -99,11 +99,11 @@ module _ (m : Memory) (z : Sized m) (f : Form m) (x : Msg) (s : Sendable m x) (g
   B = boardOf (m .board) n
 
   abbrev m′ : Memory
-  m′ = record { house = raised (m .house) (suc n); board = patch (m .board) (40 * n) (bytesOf (stored x)); cells = m .cells; heard = m .heard }
+  m′ = added m x
 
   module _ (e : has x B ≡ false) where
     room′ : 40 * n + 40 ≤ length (m .board)
-    room′ = let h = s .place e in omega (arith, z .board)
+    room′ = room-for m z x s e
 
     grows : boardOf (m′ .board) (suc n) ≡ B ++ (x ∷ [])
     grows = board-grows (m .board) x n (s .small) room′
@@ -143,12 +143,7 @@ module _ (m : Memory) (z : Sized m) (f : Form m) (x : Msg) (s : Sendable m x) (g
     form′ = record { house = f .house; board = board′; cells = f .cells; heard = heard′ }
 
   pub post-form : Form (post m x)
-  unfolding post
-  post-form = go (has x B) refl
-    where
-      go : (b : Bool) → has x B ≡ b → Form (pick b m m′)
-      go true e = f
-      go false e = form′ e
+  post-form = post-by Form m x f form′
 
 -- ---- a cell is set
 
@@ -275,7 +270,7 @@ cell-suc k c t =
     (and-two P (L (suc k)) (and-l P (L k) w) (all-more (λ (p : Pair). leb (p .0) k) (λ (p : Pair). leb (p .0) (suc k)) (c .pairs) (λ p x. leb-suc (p .0) k x) (and-r P (L k) w))))
 
 pub scan-form : (m : Memory) (a b : ℕ) → Sized m → Form m → m .house .tubes < 64 → scannedIn (read m .intake) a b ≡ false
-    → Form (record { house = house (m .house) (m .house .count) (m .house .marks) (suc (m .house .tubes)) (set (m .house .stations) (m .house .tubes) a) (set (m .house .serials) (m .house .tubes) b); board = m .board; cells = m .cells; heard = m .heard })
+    → Form (entered m a b)
 unfolding houseForm boardForm cellsForm heardForm
 scan-form m a b z f h e =
     let o = eqb (first (tables (roomOf (m .house)))) 0 in
@@ -310,25 +305,16 @@ Good m (hears n k) = T (is1bAt (read m .board) k)
 Good m (posts x n) = T (goodMsg (roomOf (m .house)) (m .house .tubes) x) × (n < m .house .nodes)
 
 post-tubes : (m : Memory) (x : Msg) → post m x .house .tubes ≡ m .house .tubes
-unfolding post
-post-tubes m x = go (has x (boardOf (m .board) (m .house .count)))
-  where
-    go : (b : Bool) → (pick b m (record { house = raised (m .house) (suc (m .house .count)); board = patch (m .board) (40 * m .house .count) (bytesOf (stored x)); cells = m .cells; heard = m .heard })) .house .tubes ≡ m .house .tubes
-    go true = refl
-    go false = refl
+post-tubes m x = post-by (λ n. n .house .tubes ≡ m .house .tubes) m x refl (λ e. refl)
 
 pub kept : (m : Memory) (e : Effect) → Sized m → Form m → Ready m e → Good m e → Form (write m e)
 unfolding write
 kept m stays z f r g = f
-kept m (scans a b) z f r g = go (scannedIn (read m .intake) a b) refl
-  where
-    go : (x : Bool) → scannedIn (read m .intake) a b ≡ x → Form (pick x m (record { house = house (m .house) (m .house .count) (m .house .marks) (suc (m .house .tubes)) (set (m .house .stations) (m .house .tubes) a) (set (m .house .serials) (m .house .tubes) b); board = m .board; cells = m .cells; heard = m .heard }))
-    go true e = f
-    go false e = scan-form m a b z f (r e) e
+kept m (scans a b) z f r g = scan-by Form m a b f (λ e. scan-form m a b z f (r e) e)
 kept m (sends x) z f r g = post-form m z f x r g
 kept m (acts x q n c) z f r g =
     cell-form (post m x) (post-sized m z x (r .0)) (post-form m z f x (r .0) (g .0)) q n c
-    (subst (λ (ρ : Room). At ρ q n) (sym (post-room m z x (r .0))) (r .1 .0)) (r .1 .1) (subst (λ (k : ℕ). T (goodCell k c)) (sym (post-tubes m x)) (g .1))
+    (subst (λ (ρ : Room). At ρ q n) (sym (post-room m x)) (r .1 .0)) (r .1 .1) (subst (λ (k : ℕ). T (goodCell k c)) (sym (post-tubes m x)) (g .1))
 kept m (hears n k) z f r g = hear-form m n k z f (r .0) (r .1) g
 kept m (posts x n) z f r g =
-    mark-form (post m x) n (post-form m z f x r (g .0)) (subst (λ (ρ : Room). n < ρ .nodes) (sym (post-room m z x r)) (g .1))
+    mark-form (post m x) n (post-form m z f x r (g .0)) (subst (λ (ρ : Room). n < ρ .nodes) (sym (post-room m x)) (g .1))

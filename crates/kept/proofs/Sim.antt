@@ -46,49 +46,67 @@ length-bytes x = ap (λ (t : ℕ). suc (suc (suc (suc (suc (suc (suc (suc t)))))
 pub length-cell : (c : Cell) → length (encode (storedCell c)) ≡ 36
 length-cell c = ap (λ (t : ℕ). suc (suc (suc (suc t)))) (length-fit 32 (flatten (c .pairs)))
 
+-- memory with a message after the last, and memory with a tube after the last
+abbrev pub added : Memory → Msg → Memory
+added m x = record {
+  house = raised (m .house) (suc (m .house .count));
+  board = patch (m .board) (40 * m .house .count) (bytesOf (stored x));
+  cells = m .cells;
+  heard = m .heard;
+}
+
+abbrev pub entered : Memory → ℕ → ℕ → Memory
+entered m a b = record {
+  house = house (m .house) (m .house .count) (m .house .marks) (suc (m .house .tubes)) (set (m .house .stations) (m .house .tubes) a) (set (m .house .serials) (m .house .tubes) b);
+  board = m .board;
+  cells = m .cells;
+  heard = m .heard;
+}
+
+-- what holds of memory as it was and of memory with the new one holds of what is left
+pub post-by : (P : Memory → Type 0) (m : Memory) (x : Msg) → P m → (has x (read m .board) ≡ false → P (added m x)) → P (post m x)
+unfolding post
+post-by P m x f g = go (has x (read m .board)) refl
+  where
+    go : (b : Bool) → has x (read m .board) ≡ b → P (pick b m (added m x))
+    go true e = f
+    go false e = g e
+
+pub scan-by : (P : Memory → Type 0) (m : Memory) (a b : ℕ) → P m → (scannedIn (read m .intake) a b ≡ false → P (entered m a b)) → P (write m (scans a b))
+unfolding write
+scan-by P m a b f g = go (scannedIn (read m .intake) a b) refl
+  where
+    go : (x : Bool) → scannedIn (read m .intake) a b ≡ x → P (pick x m (entered m a b))
+    go true e = f
+    go false e = g e
+
+pub post-room : (m : Memory) (x : Msg) → roomOf (post m x .house) ≡ roomOf (m .house)
+post-room m x = post-by (λ n. roomOf (n .house) ≡ roomOf (m .house)) m x refl (λ e. refl)
+
 module _ (m : Memory) (z : Sized m) where
   abbrev B : List Msg
   B = boardOf (m .board) (m .house .count)
 
   module _ (x : Msg) (f : Sendable m x) where
-    abbrev m′ : Memory
-    m′ = record {
-      house = raised (m .house) (suc (m .house .count));
-      board = patch (m .board) (40 * m .house .count) (bytesOf (stored x));
-      cells = m .cells;
-      heard = m .heard;
-    }
-
-    room-for : has x B ≡ false → 40 * m .house .count + 40 ≤ length (m .board)
+    pub room-for : has x B ≡ false → 40 * m .house .count + 40 ≤ length (m .board)
     room-for e = let h = f .place e in omega arith
 
     pub post-sim : read (post m x) ≡ send (read m) x
     unfolding post
     post-sim = go (has x B) refl
       where
-        go : (b : Bool) → has x B ≡ b → read (pick b m m′)
+        go : (b : Bool) → has x B ≡ b → read (pick b m (added m x))
             ≡ record { board = pick b B (B ++ (x ∷ [])); cells = read m .cells; heard = read m .heard; marks = read m .marks; intake = read m .intake }
         go true e = refl
         go false e = λ i. record { board = board-grows (m .board) x (m .house .count) (f .small) (room-for e) i; cells = read m .cells; heard = read m .heard; marks = read m .marks; intake = read m .intake }
 
-    long′ : has x B ≡ false → length (m′ .board) ≡ length (m .board)
-    long′ e = let h = room-for e in length-patch (m .board) (bytesOf (stored x)) (40 * m .house .count) (omega (arith, length-bytes x))
+    -- the board stays as long as it was
+    pub added-long : has x B ≡ false → length (added m x .board) ≡ length (m .board)
+    added-long e = let h = room-for e in length-patch (m .board) (bytesOf (stored x)) (40 * m .house .count) (omega (arith, length-bytes x))
 
     pub post-sized : Sized (post m x)
-    unfolding post
-    post-sized = go (has x B) refl
-      where
-        go : (b : Bool) → has x B ≡ b → Sized (pick b m m′)
-        go true e = z
-        go false e = let h = f .place e in let l = long′ e in record { board = omega (arith, z .board); cells = z .cells; heard = z .heard; count = omega arith; capacity = z .capacity; stations = z .stations; serials = z .serials }
-
-    pub post-room : roomOf (post m x .house) ≡ roomOf (m .house)
-    unfolding post
-    post-room = go (has x B)
-      where
-        go : (b : Bool) → roomOf (pick b m m′ .house) ≡ roomOf (m .house)
-        go true = refl
-        go false = refl
+    post-sized = post-by Sized m x z (λ e. let h = f .place e in let l = added-long e in
+        record { board = omega (arith, z .board); cells = z .cells; heard = z .heard; count = omega arith; capacity = z .capacity; stations = z .stations; serials = z .serials })
 
   pub cell-sim : (r n : ℕ) (c : Cell) → At (roomOf (m .house)) r n → meaningCell (storedCell c) ≡ c → read (writeCell m r n c) ≡ withCell (read m) r n c
   cell-sim r n c p back = λ i. record { board = read m .board; cells = cells-set (roomOf (m .house)) (m .cells) r n c p (z .cells) back i; heard = read m .heard; marks = read m .marks; intake = read m .intake }
@@ -101,13 +119,13 @@ unfolding write
 sim m stays z h = refl
 sim m (scans a b) z h = go (scannedIn (read m .intake) a b) refl
   where
-    go : (x : Bool) → scannedIn (read m .intake) a b ≡ x → read (pick x m (record { house = house (m .house) (m .house .count) (m .house .marks) (suc (m .house .tubes)) (set (m .house .stations) (m .house .tubes) a) (set (m .house .serials) (m .house .tubes) b); board = m .board; cells = m .cells; heard = m .heard }))
+    go : (x : Bool) → scannedIn (read m .intake) a b ≡ x → read (pick x m (entered m a b))
         ≡ record { board = read m .board; cells = read m .cells; heard = read m .heard; marks = read m .marks; intake = pick x (read m .intake) (read m .intake ++ ((a, b) ∷ [])) }
     go true e = refl
     go false e = let l = h e in λ i. record { board = read m .board; cells = read m .cells; heard = read m .heard; marks = read m .marks; intake = intake-grows (m .house .stations) (m .house .serials) (m .house .tubes) a b (omega (arith, z .stations)) (omega (arith, z .serials)) i }
 sim m (sends x) z h = post-sim m z x h
 sim m (acts x r n c) z h =
-    cell-sim (post m x) (post-sized m z x (h .0)) r n c (subst (λ (ρ : Room). At ρ r n) (sym (post-room m z x (h .0))) (h .1 .0)) (h .1 .1)
+    cell-sim (post m x) (post-sized m z x (h .0)) r n c (subst (λ (ρ : Room). At ρ r n) (sym (post-room m x)) (h .1 .0)) (h .1 .1)
     ∙ ap (λ (s : State). withCell s r n c) (post-sim m z x (h .0))
 sim m (hears n k) z h = λ i. record { board = read m .board; cells = read m .cells; heard = heard-set (roomOf (m .house)) (m .heard) n k (h .0) (h .1) (z .heard) i; marks = read m .marks; intake = read m .intake }
 sim m (posts x n) z h = mark-sim (post m x) n ∙ ap (λ (s : State). withMark s n) (post-sim m z x h)
