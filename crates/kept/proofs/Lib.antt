@@ -2,3 +2,4 @@ pub mod Sim
 pub mod Ready
 pub mod Keep
 pub mod Good
+pub mod Stay

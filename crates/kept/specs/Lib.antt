@@ -1,1 +1,2 @@
--- What the functions of this crate carry.
+pub mod Run
+pub mod Kept
