@@ -3,3 +3,5 @@ pub mod Ready
 pub mod Keep
 pub mod Good
 pub mod Stay
+pub mod Open
+pub mod Runs

@@ -119,7 +119,7 @@ passed m c t e =
       needs = z .1 .1 .1 .1 .1;
     }
 
-drop-test : (b : Bool) (k : ℕ) {x : ℕ} → T b → pick b x k ≡ 0 → x ≡ 0
+pub drop-test : (b : Bool) (k : ℕ) {x : ℕ} → T b → pick b x k ≡ 0 → x ≡ 0
 drop-test true k t e = e
 drop-test false k t e = absurd t
 
