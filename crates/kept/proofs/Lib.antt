@@ -4,4 +4,4 @@ pub mod Keep
 pub mod Good
 pub mod Stay
 pub mod Open
-pub mod Runs
+pub mod Alike

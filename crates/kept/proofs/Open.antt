@@ -17,7 +17,7 @@ use Rattle.rules.specs.Replies.{roomCounts, roomLong, openReply, houseOf, opene
 use Rattle.rules.proofs.Sound.{and-l, and-r, clear, Clear}
 use Rattle.rules.proofs.Area.{length-patch}
 use Rattle.rules.proofs.Codec.{length-fit, at-in, place-in}
-use Rattle.kept.specs.Run.{blank}
+use Rattle.agree.specs.Room.{blank}
 use Rattle.kept.specs.Kept.{Begun}
 use Rattle.kept.proofs.Ready.{Form, drop-test}
 use Rattle.kept.proofs.Keep.{and-two, below-all}

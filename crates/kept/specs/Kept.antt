@@ -9,7 +9,7 @@ use Rattle.rules.specs.Words.{Room}
 use Rattle.rules.specs.Lent.{Memory, Typed, roomOf, read, counts, long, inForm}
 use Rattle.rules.specs.Steps.{Call, book, put, effect}
 use Rattle.rules.specs.Replies.{rules, areas, reply, after, runs, openReply, opening}
-use Rattle.kept.specs.Run.{blank, step, run}
+use Rattle.agree.specs.Room.{blank, step, run}
 
 -- memory that no call refuses for what stands in it: counts in limits, areas long enough, in form
 pub record Whole (m : Memory) : Type 0 where
@@ -66,6 +66,9 @@ Opens = (ρ : Room) (m : Memory) → openReply ρ m ≡ 0 → Begun ρ (opening 
 -- whatever calls follow, memory stays in form
 abbrev pub RunsInForm : Type 0
 RunsInForm = (ρ : Room) (m : Memory) → openReply ρ m ≡ 0 → (cs : List Call) → Whole (runs (opening ρ m) cs)
+
+abbrev pub RunsInRoom : Type 0
+RunsInRoom = (ρ : Room) (m : Memory) → openReply ρ m ≡ 0 → (cs : List Call) → roomOf (runs (opening ρ m) cs .house) ≡ ρ
 
 -- so that none of them replies 17, and 5 only for the book's own areas
 abbrev pub Never17 : Type 0

@@ -14,7 +14,7 @@ use Rattle.rules.specs.declared.House.{House}
 use Rattle.rules.specs.Steps.{Call, scan, c1a, c1b, c1c, c2av, c2b, hear, foreign, ask, book, effect, put}
 use Rattle.rules.specs.Replies.{rules, areas, reply, after, runs, openReply, opening}
 use Rattle.rules.proofs.Sound.{and-l, and-r}
-use Rattle.kept.specs.Run.{blank, step, run}
+use Rattle.agree.specs.Room.{blank, step, run}
 use Rattle.kept.specs.Kept.{Whole}
 use Rattle.kept.proofs.Ready.{allowed}
 use Rattle.kept.proofs.Stay.{refused, obeyed, same-room, stays-whole}
