@@ -20,7 +20,7 @@ use Rattle.rules.proofs.Codec.{length-fit, at-in, place-in}
 use Rattle.agree.specs.Room.{blank}
 use Rattle.kept.specs.Kept.{Begun}
 use Rattle.kept.proofs.Ready.{Form, drop-test}
-use Rattle.kept.proofs.Keep.{and-two, below-all}
+use Rattle.kept.proofs.Lists.{and-two, below-all}
 use Rattle.kept.proofs.Stay.{in-form}
 
 -- ---- lists that opening writes

@@ -4,17 +4,18 @@ use mathlib.Core.Bool.{Bool, true, false, _&&_}
 use mathlib.Core.Logic.{_⊎_, inl, inr}
 use mathlib.Core.List.{List, [], _∷_}
 use Prim.Native.Nat.{ℕ, zero, suc, _*_, _≤_, _<_}
-use native.Mathlib.Decide.{ℕ-discrete}
 use native.Mathlib.Omega.{arith}
 use lib.Dec.{T, leb, ltb, leb→le, ltb→lt}
 use lib.ListN.{length, getD, length-append}
-use Rattle.rules.specs.Tests.{pick, all, allBelow, first}
-use Rattle.rules.specs.Words.{balIn, tubeIn, Msg, m1a, m1b, m1c, m2av, m2b, Cell, Room, State}
+use Rattle.rules.specs.Tests.{pick, all, first}
+use Rattle.rules.specs.Words.{balIn, tubeIn, Msg, m1a, m1b, m1c, m2av, m2b, Room, State}
 use Rattle.rules.specs.Lent.{Memory, boardOf, cellAt, meaningCell, place, intakeOf, roomOf, rowIn, read, Typed, counts, long, pairsIn, limits, plainCell, goodCell, houseForm, boardForm, cellForm, cellsForm, heardForm, inForm}
 use Rattle.rules.specs.Steps.{Post, p1b, p2av, p2b, other, Call, scan, c1a, c1b, c1c, c2av, c2b, hear, foreign, ask, book, has, fits, scannedIn, without, told, posted, effect}
 use Rattle.rules.specs.Replies.{pairsPlain, postIn, fields, tubes, needs, rules, areas, tests, reply}
 use Rattle.rules.proofs.Sound.{and-l, and-r, or-cases, clear, Clear}
 use Rattle.rules.proofs.Codec.{Small, cell-back, length-board, At, in-at, place-in}
+use Rattle.kept.proofs.Lists.{all-below}
+use Rattle.kept.proofs.Cells.{fine}
 use Rattle.kept.proofs.Sim.{Sized, Sendable, Ready}
 
 -- ---- memory
@@ -30,14 +31,6 @@ sized m t p q = record {
   stations = t .stations;
   serials = t .serials;
 }
-
-pub all-below : (p : ℕ → Bool) (n : ℕ) → T (allBelow p n) → (k : ℕ) → k < n → T (p k)
-all-below p zero t k l = absurd (omega arith)
-all-below p (suc n) t k l = go (all-below p n (and-r (p n) (allBelow p n) t) k) (ℕ-discrete k n)
-  where
-    go : (k < n → T (p k)) → Dec (k ≡ n) → T (p k)
-    go r (yes e) = rw e (and-l (p n) (allBelow p n) t)
-    go r (no e) = r (omega arith)
 
 pub record Form (m : Memory) : Type 0 where
   pub house : T (houseForm m)
@@ -64,16 +57,6 @@ cell-good m r n f p =
     let k = place (h .rows) r n in
     let t = all-below (cellForm (h .tubes) (m .cells)) (h .nodes * h .rows) (f .cells) k (place-in (h .nodes) (h .rows) r n (p .low) (p .high) (p .node)) in
     rw (in-at (roomOf h) r n p) (and-r (plainCell (m .cells) k) (goodCell (h .tubes) (meaningCell (cellAt (m .cells) k))) t)
-
--- what a good cell is for the codec
-pub record Fine (c : Cell) : Type 0 where
-  pub bal : c .maxBal ≤ 16
-  pub vbal : c .maxVBal ≤ 16
-  pub pairs : length (c .pairs) ≤ 16
-
-pub fine : (h : ℕ) (c : Cell) → T (goodCell h c) → Fine c
-unfolding goodCell
-fine h c t = record { bal = search (leb→le, and-l, and-r) depth 9; vbal = search (leb→le, and-l, and-r) depth 9; pairs = search (leb→le, and-l, and-r) depth 9 }
 
 length-scans : (a b : List ℕ) (n : ℕ) → length (intakeOf a b n) ≡ n
 length-scans a b zero = refl

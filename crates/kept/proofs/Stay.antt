@@ -19,7 +19,7 @@ use Rattle.rules.proofs.Codec.{At, place-in}
 use Rattle.kept.specs.Kept.{Whole}
 use Rattle.kept.proofs.Sim.{Sized, Sendable, Ready, length-cell, added, entered, post-by, scan-by, added-long, post-sized, post-room, sim}
 use Rattle.kept.proofs.Ready.{Form, passed, ready}
-use Rattle.kept.proofs.Keep.{and-two}
+use Rattle.kept.proofs.Lists.{and-two}
 use Rattle.kept.proofs.Good.{accepted-form}
 
 -- ---- a call that is refused, and one that is not
