@@ -4,13 +4,12 @@ use mathlib.Core.Bool.{Bool, _&&_}
 use Prim.Native.Nat.{ℕ, _<_}
 use lib.Dec.{T, leb, ltb, ltb→lt}
 use lib.ListN.{length}
-use Rattle.rules.specs.Tests.{all}
-use Rattle.rules.specs.Words.{heightOf, balIn, tubeIn, Msg, m1a, m1c, m2av, m2b, Room}
-use Rattle.rules.specs.Lent.{Memory, pairsOf, roomOf, rowIn, read, Typed, pairsIn, limits, scanned, goodMsg}
+use Rattle.rules.specs.Words.{balIn, Msg, m1a, m1c, m2av, m2b, Room}
+use Rattle.rules.specs.Lent.{Memory, roomOf, rowIn, read, Typed, limits, scanned, goodMsg}
 use Rattle.rules.specs.Steps.{Post, p1b, p2av, p2b, other, Call, scan, c1a, c1b, c1c, c2av, c2b, hear, foreign, ask, book, without, told, posted, poster, effect, write}
 use Rattle.rules.specs.Replies.{postIn, fields, tubes, reply}
 use Rattle.rules.proofs.Sound.{and-l, and-r}
-use Rattle.kept.proofs.Ready.{Form, Passed, passed, cell-good, length-intake, post-limits, ready}
+use Rattle.kept.proofs.Ready.{Form, Passed, passed, cell-good, length-intake, at-row, at-2, post-limits, ready}
 use Rattle.kept.proofs.Lists.{and-two, all-last}
 use Rattle.kept.proofs.Cells.{On, CellOk, parts, whole, all-without, up, pairs-2av}
 use Rattle.kept.proofs.Keep.{Good, kept}
@@ -22,12 +21,6 @@ module _ (m : Memory) where
   abbrev k : ℕ
   k = m .house .tubes
 
-  at-2 : (r n b v : ℕ) → T ((rowIn ρ r && balIn b) && (ltb n (ρ .nodes) && tubeIn v)) → T (balIn b) × T (tubeIn v)
-  at-2 r n b v t =
-      let p = and-l (rowIn ρ r && balIn b) (ltb n (ρ .nodes) && tubeIn v) t in
-      let q = and-r (rowIn ρ r && balIn b) (ltb n (ρ .nodes) && tubeIn v) t in
-      (and-r (rowIn ρ r) (balIn b) p, and-r (ltb n (ρ .nodes)) (tubeIn v) q)
-
   -- on intake: as many scans as tubes
   on : (p : ℕ → Bool) → T (p (length (read m .intake))) → T (p k)
   on p = subst (λ (n : ℕ). T (p n)) (length-intake m)
@@ -38,29 +31,14 @@ module _ (m : Memory) where
 
   good-told : (r n b : ℕ) → T ((rowIn ρ r && balIn b) && ltb n (ρ .nodes)) → CellOk k (read m .cells r n) → T (goodMsg ρ k (told (read m) r n b))
   unfolding goodMsg limits scanned
-  good-told r n b t p =
-      let c = read m .cells r n in
-      let A = rowIn ρ r && balIn b in
-      let N = ltb n (ρ .nodes) in
-      let X = leb (c .maxVBal) 16 in
-      let Y = leb (c .maxVVal) 64 in
-      let P = pairsIn (c .pairs) in
-      let S = leb (c .maxVVal) k in
-      let O = all (On k) (c .pairs) in
-      and-two (A && (N && (X && (Y && P)))) (S && O)
-      (and-two A (N && (X && (Y && P))) (and-l A N t) (and-two N (X && (Y && P)) (and-r A N t) (and-two X (Y && P) (p .vbal) (and-two Y P (p .val) (p .pairs)))))
-      (and-two S O (p .tube) (p .on))
+  good-told r n b t p = search (and-two, and-l, and-r, t, p .vbal, p .val, p .tube, p .pairs, p .on) depth 9
 
 -- a foreign post is under a node of the room
 poster-in : (ρ : Room) (p : Post) → T (postIn ρ p) → poster p < ρ .nodes
 unfolding limits
-poster-in ρ (p1b r b n x y k l) t =
-    let A = rowIn ρ r && balIn b in
-    let N = ltb n (ρ .nodes) in
-    let X = leb (heightOf x) 16 && (leb y 64 && pairsIn (pairsOf k l)) in
-    ltb→lt n (ρ .nodes) (and-l N X (and-r A (N && X) (post-limits ρ (p1b r b n x y k l) t)))
-poster-in ρ (p2av r b n v) t = ltb→lt n (ρ .nodes) (and-l (ltb n (ρ .nodes)) (tubeIn v) (and-r (rowIn ρ r && balIn b) (ltb n (ρ .nodes) && tubeIn v) t))
-poster-in ρ (p2b r b n v) t = ltb→lt n (ρ .nodes) (and-l (ltb n (ρ .nodes)) (tubeIn v) (and-r (rowIn ρ r && balIn b) (ltb n (ρ .nodes) && tubeIn v) t))
+poster-in ρ (p1b r b n x y k l) t = let u = post-limits ρ (p1b r b n x y k l) t in search (ltb→lt, and-l, and-r) depth 9
+poster-in ρ (p2av r b n v) t = search (ltb→lt, and-l, and-r) depth 9
+poster-in ρ (p2b r b n v) t = search (ltb→lt, and-l, and-r) depth 9
 poster-in ρ other t = absurd t
 
 pub good : (m : Memory) (c : Call) → Passed m c → Good m (effect (read m) c)
@@ -69,27 +47,27 @@ good m (scan a b) p = tt
 good m (c1a r b) p = good-of m (m1a r b) (p .fields) tt
 good m (c1b r n b) p =
     let q = parts (m .house .tubes) (read m .cells r n) (cell-good m r n (p .form) (ready m (c1b r n b) p .1 .0)) in
-    let h = and-r (rowIn (roomOf (m .house)) r) (balIn b) (and-l (rowIn (roomOf (m .house)) r && balIn b) (ltb n (m .house .nodes)) (p .fields)) in
-    (good-told m r n b (p .fields) q, whole (m .house .tubes) _ (record { bal = up b h; vbal = q .vbal; val = q .val; tube = q .tube; pairs = q .pairs; on = q .on }))
+    let a = at-row (roomOf (m .house)) r n b (p .fields) in
+    (good-told m r n b (p .fields) q, whole (m .house .tubes) _ (record { bal = up b (a .1); vbal = q .vbal; val = q .val; tube = q .tube; pairs = q .pairs; on = q .on }))
 good m (c1c r b v) p = good-of m (m1c r b v) (p .fields) (p .tubes)
 good m (c2av r n b v) p =
     let q = parts (m .house .tubes) (read m .cells r n) (cell-good m r n (p .form) (ready m (c2av r n b v) p .1 .0)) in
-    let a = at-2 m r n b v (p .fields) in
+    let a = at-2 (roomOf (m .house)) r n b v (p .fields) in
     let l = (read m .cells r n) .pairs in (
       good-of m (m2av r b n v) (p .fields) (p .tubes),
       whole (m .house .tubes) _ (record {
-        bal = up b (a .0);
+        bal = up b (a .1);
         vbal = q .vbal;
         val = q .val;
         tube = q .tube;
-        pairs = pairs-2av v b l (q .pairs) (a .1) (a .0) (p .needs .1 .1 .0) (ltb→lt (length (without v l)) 16 (p .needs .1 .1 .1 .1 .0));
+        pairs = pairs-2av v b l (q .pairs) (a .2) (a .1) (p .needs .1 .1 .0) (ltb→lt (length (without v l)) 16 (p .needs .1 .1 .1 .1 .0));
         on = all-last (On (m .house .tubes)) (without v l) (v, b) (all-without (On (m .house .tubes)) v l (q .on)) (on m (λ n. leb v n) (p .tubes));
       }),
     )
 good m (c2b r n b v) p =
     let q = parts (m .house .tubes) (read m .cells r n) (cell-good m r n (p .form) (ready m (c2b r n b v) p .1 .0)) in
-    let a = at-2 m r n b v (p .fields) in
-    (good-of m (m2b r b n v) (p .fields) (p .tubes), whole (m .house .tubes) _ (record { bal = up b (a .0); vbal = up b (a .0); val = and-r (leb 1 v) (leb v 64) (a .1); tube = on m (λ n. leb v n) (p .tubes); pairs = q .pairs; on = q .on }))
+    let a = at-2 (roomOf (m .house)) r n b v (p .fields) in
+    (good-of m (m2b r b n v) (p .fields) (p .tubes), whole (m .house .tubes) _ (record { bal = up b (a .1); vbal = up b (a .1); val = and-r (leb 1 v) (leb v 64) (a .2); tube = on m (λ n. leb v n) (p .tubes); pairs = q .pairs; on = q .on }))
 good m (hear n k) p = p .needs .0
 good m (foreign p) q = (good-of m (posted p) (post-limits (roomOf (m .house)) p (q .fields)) (q .tubes), poster-in (roomOf (m .house)) p (q .fields))
 good m (ask r) p = tt
