@@ -23,6 +23,34 @@ use Rattle.kept.proofs.Lists.{and-two, all-below, below-all, all-last, 
 use Rattle.kept.proofs.Cells.{good-suc, cell-suc}
 use Rattle.kept.proofs.Ready.{Form}
 
+-- ---- the parts of the form
+
+record HouseParts (m : Memory) : Type 0 where
+  pub tables : T (eqb (first (tables (roomOf (m .house)))) 0)
+  pub intake : T (distinct sameScan (read m .intake))
+  pub marks : T (ltb (m .house .marks) (2 ^ m .house .nodes))
+
+house-parts : (m : Memory) → T (houseForm m) → HouseParts m
+unfolding houseForm
+house-parts m t = record { tables = search (and-l, and-r) depth 9; intake = search (and-l, and-r) depth 9; marks = search (and-l, and-r) depth 9 }
+
+house-whole : (m : Memory) → HouseParts m → T (houseForm m)
+unfolding houseForm
+house-whole m p = search (and-two, p .tables, p .intake, p .marks) depth 9
+
+record BoardParts (m : Memory) : Type 0 where
+  pub plain : T (allBelow (plainMsg (m .board)) (m .house .count))
+  pub good : T (all (goodMsg (roomOf (m .house)) (m .house .tubes)) (read m .board))
+  pub differ : T (distinct sameMsg (read m .board))
+
+board-parts : (m : Memory) → T (boardForm m) → BoardParts m
+unfolding boardForm
+board-parts m t = record { plain = search (and-l, and-r) depth 9; good = search (and-l, and-r) depth 9; differ = search (and-l, and-r) depth 9 }
+
+board-whole : (m : Memory) → BoardParts m → T (boardForm m)
+unfolding boardForm
+board-whole m p = search (and-two, p .plain, p .good, p .differ) depth 9
+
 -- ---- a message is added
 
 module _ (m : Memory) (z : Sized m) (f : Form m) (x : Msg) (s : Sendable m x) (g : T (goodMsg (roomOf (m .house)) (m .house .tubes) x)) where
@@ -51,16 +79,11 @@ module _ (m : Memory) (z : Sized m) (f : Form m) (x : Msg) (s : Sendable m x) (g
     plain-new = rw (patch-same (m .board) (bytesOf (stored x)) (40 * n) 40 (length-bytes x) room′, msg-put (m .board) (stored x) n (msg-long x) room′, msg-back x (s .small)) (eqs-refl (bytesOf (stored x)))
 
     board′ : T (boardForm m′)
-    unfolding boardForm
-    board′ =
-        let p = f .board in
-        let q = and-r (allBelow (plainMsg (m .board)) n) (all (goodMsg (roomOf (m .house)) (m .house .tubes)) B && distinct sameMsg B) p in
-        and-two (allBelow (plainMsg (m′ .board)) (suc n)) (all (goodMsg (roomOf (m .house)) (m .house .tubes)) (read m′ .board) && distinct sameMsg (read m′ .board))
-        (and-two (plainMsg (m′ .board) n) (allBelow (plainMsg (m′ .board)) n) plain-new
-        (below-all (plainMsg (m′ .board)) n (λ k l. plain-old k l (all-below (plainMsg (m .board)) n (and-l (allBelow (plainMsg (m .board)) n) (all (goodMsg (roomOf (m .house)) (m .house .tubes)) B && distinct sameMsg B) p) k l))))
-        (rw grows (and-two (all (goodMsg (roomOf (m .house)) (m .house .tubes)) (B ++ (x ∷ []))) (distinct sameMsg (B ++ (x ∷ [])))
-        (all-last (goodMsg (roomOf (m .house)) (m .house .tubes)) B x (and-l (all (goodMsg (roomOf (m .house)) (m .house .tubes)) B) (distinct sameMsg B) q) g)
-        (distinct-last sameMsg same-flip B x (and-r (all (goodMsg (roomOf (m .house)) (m .house .tubes)) B) (distinct sameMsg B) q) e)))
+    board′ = let p = board-parts m (f .board) in board-whole m′ (record {
+      plain = and-two (plainMsg (m′ .board) n) (allBelow (plainMsg (m′ .board)) n) plain-new (below-all (plainMsg (m′ .board)) n (λ k l. plain-old k l (all-below (plainMsg (m .board)) n (p .plain) k l)));
+      good = rw grows (all-last (goodMsg (roomOf (m .house)) (m .house .tubes)) B x (p .good) g);
+      differ = rw grows (distinct-last sameMsg same-flip B x (p .differ) e);
+    })
 
     heard′ : T (heardForm m′)
     unfolding heardForm
@@ -161,40 +184,32 @@ hear-form m n k z f hn hk t = record {
 pub mark-form : (m : Memory) (n : ℕ) → Form m → n < m .house .nodes → Form (record { house = marked (m .house) n; board = m .board; cells = m .cells; heard = m .heard })
 unfolding houseForm boardForm cellsForm heardForm
 mark-form m n f h =
-    let o = eqb (first (tables (roomOf (m .house)))) 0 in
-    let d = distinct sameScan (read m .intake) in
-    let q = and-r o (d && ltb (m .house .marks) (2 ^ m .house .nodes)) (f .house) in
-    let l = ltb→lt (m .house .marks) (2 ^ m .house .nodes) (and-r d (ltb (m .house .marks) (2 ^ m .house .nodes)) q) in record {
-      house = and-two o (d && ltb (bitOr (m .house .marks) (2 ^ n)) (2 ^ m .house .nodes)) (and-l o (d && ltb (m .house .marks) (2 ^ m .house .nodes)) (f .house))
-          (and-two d (ltb (bitOr (m .house .marks) (2 ^ n)) (2 ^ m .house .nodes)) (and-l d (ltb (m .house .marks) (2 ^ m .house .nodes)) q)
-          (lt→ltb (bitOr (m .house .marks) (2 ^ n)) (2 ^ m .house .nodes) (or-lt (m .house .nodes) (m .house .marks) (2 ^ n) l (pow-lt h))));
+    let p = house-parts m (f .house) in
+    let l = ltb→lt (m .house .marks) (2 ^ m .house .nodes) (p .marks) in record {
+      house = house-whole (record { house = marked (m .house) n; board = m .board; cells = m .cells; heard = m .heard }) (record {
+        tables = p .tables;
+        intake = p .intake;
+        marks = lt→ltb (bitOr (m .house .marks) (2 ^ n)) (2 ^ m .house .nodes) (or-lt (m .house .nodes) (m .house .marks) (2 ^ n) l (pow-lt h));
+      });
       board = f .board;
       cells = f .cells;
       heard = f .heard;
     }
 
-pub scan-form : (m : Memory) (a b : ℕ) → Sized m → Form m → m .house .tubes < 64 → scannedIn (read m .intake) a b ≡ false
-    → Form (entered m a b)
-unfolding houseForm boardForm cellsForm heardForm
+pub scan-form : (m : Memory) (a b : ℕ) → Sized m → Form m → m .house .tubes < 64 → scannedIn (read m .intake) a b ≡ false → Form (entered m a b)
+unfolding cellsForm heardForm
 scan-form m a b z f h e =
-    let o = eqb (first (tables (roomOf (m .house)))) 0 in
-    let d = distinct sameScan (read m .intake) in
-    let u = ltb (m .house .marks) (2 ^ m .house .nodes) in
+    let p = house-parts m (f .house) in
+    let q = board-parts m (f .board) in
     let t = m .house .tubes in
     let ρ = roomOf (m .house) in
-    let q = and-r o (d && u) (f .house) in
-    let g = intake-grows (m .house .stations) (m .house .serials) t a b (omega (arith, z .stations)) (omega (arith, z .serials)) in
-    let A = allBelow (plainMsg (m .board)) (m .house .count) in
-    let B = read m .board in
-    let p = and-r A (all (goodMsg ρ t) B && distinct sameMsg B) (f .board) in record {
-      house = subst (λ (l : List (ℕ × ℕ)). T (o && (distinct sameScan l && u))) (sym g)
-          (and-two o (distinct sameScan (read m .intake ++ ((a, b) ∷ [])) && u) (and-l o (d && u) (f .house))
-          (and-two (distinct sameScan (read m .intake ++ ((a, b) ∷ []))) u (distinct-last sameScan scan-flip (read m .intake) (a, b) (and-l d u q) e) (and-r d u q)));
-      board = and-two A (all (goodMsg ρ (suc t)) B && distinct sameMsg B) (and-l A (all (goodMsg ρ t) B && distinct sameMsg B) (f .board))
-          (and-two (all (goodMsg ρ (suc t)) B) (distinct sameMsg B) (all-more (goodMsg ρ t) (goodMsg ρ (suc t)) B (λ x w. good-suc ρ t x w) (and-l (all (goodMsg ρ t) B) (distinct sameMsg B) p)) (and-r (all (goodMsg ρ t) B) (distinct sameMsg B) p));
-      cells = below-all (cellForm (suc t) (m .cells)) (m .house .nodes * m .house .rows) (λ k l. let w = all-below (cellForm t (m .cells)) (m .house .nodes * m .house .rows) (f .cells) k l in
-          and-two (plainCell (m .cells) k) (goodCell (suc t) (meaningCell (cellAt (m .cells) k))) (and-l (plainCell (m .cells) k) (goodCell t (meaningCell (cellAt (m .cells) k))) w)
-          (cell-suc t (meaningCell (cellAt (m .cells) k)) (and-r (plainCell (m .cells) k) (goodCell t (meaningCell (cellAt (m .cells) k))) w)));
+    let g = intake-grows (m .house .stations) (m .house .serials) t a b (omega (arith, z .stations)) (omega (arith, z .serials)) in record {
+      house = house-whole (entered m a b) (record { tables = p .tables; intake = rw g (distinct-last sameScan scan-flip (read m .intake) (a, b) (p .intake) e); marks = p .marks });
+      board = board-whole (entered m a b) (record { plain = q .plain; good = all-more (goodMsg ρ t) (goodMsg ρ (suc t)) (read m .board) (good-suc ρ t) (q .good); differ = q .differ });
+      cells = below-all (cellForm (suc t) (m .cells)) (m .house .nodes * m .house .rows) (λ k l.
+          let c = meaningCell (cellAt (m .cells) k) in
+          let w = all-below (cellForm t (m .cells)) (m .house .nodes * m .house .rows) (f .cells) k l in
+          and-two (plainCell (m .cells) k) (goodCell (suc t) c) (and-l (plainCell (m .cells) k) (goodCell t c) w) (cell-suc t c (and-r (plainCell (m .cells) k) (goodCell t c) w)));
       heard = f .heard;
     }
 
