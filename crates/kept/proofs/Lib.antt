@@ -1,0 +1,9 @@
+pub mod Lists
+pub mod Cells
+pub mod Sim
+pub mod Ready
+pub mod Keep
+pub mod Good
+pub mod Stay
+pub mod Open
+pub mod Alike
