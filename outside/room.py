@@ -148,9 +148,8 @@ def counts_in_limits(nodes: int, faulty: int, rows: int, capacity: int, quorums:
 
 def table_tests(nodes: int, faulty: int, quorums, weak):
     """The tests 2, 3 and 4 of opening, which memory in form passes too."""
-    present = frozenset(range(nodes))
     return [
-        (2, lambda: any(not one <= present for one in [*quorums, *weak])),
+        (2, lambda: any(node >= nodes for one in [*quorums, *weak] for node in one)),
         (3, lambda: any(len(one & other) <= faulty for one in quorums for other in quorums)),
         (4, lambda: any(len(one) <= faulty for one in weak)),
     ]
