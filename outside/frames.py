@@ -258,10 +258,12 @@ def memory_of(room: rules.Room, old: Memory) -> Memory:
 
 # ---- calls --------------------------------------------------------------------------------
 
-def open_frame(frame: Frame) -> Tuple[rules.Reply, Memory]:
+def open_frame(frame: Frame, note) -> Tuple[rules.Reply, Memory]:
     nodes, faulty, rows, capacity = frame.arguments[:4]
-    reply, room = rules.open_room(nodes, faulty, rows, capacity, frame.quorums, frame.weak,
-                                  lambda: areas_long_enough(nodes, rows, capacity, frame.memory))
+    opening = (nodes, faulty, rows, capacity, frame.quorums, frame.weak,
+               lambda: areas_long_enough(nodes, rows, capacity, frame.memory))
+    reply, room = rules.open_room(*opening)
+    note(reply.number, rules.applying(rules.opening(*opening)))
     if room is None:
         return reply, frame.memory
     blank = Memory(bytes(HOUSE.size), frame.memory.board, frame.memory.cells, frame.memory.heard,
@@ -299,9 +301,7 @@ def refused(number: int, frame: Frame, note, refusals) -> Tuple[rules.Reply, Mem
 def settle_frame(frame: Frame, note=lambda number, refusals: None) -> Tuple[rules.Reply, Memory]:
     """The reply of a frame's call and the memory afterwards; `note` is told the number and the refusals that apply."""
     if frame.call == OPEN:
-        reply, after = open_frame(frame)
-        note(reply.number, [reply.number])
-        return reply, after
+        return open_frame(frame, note)
     house = HouseImage.read(frame.memory.house)
     if not house.counts_in_limits():
         return refused(17, frame, note, [17])

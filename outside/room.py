@@ -123,9 +123,11 @@ def settle(call: Call) -> Reply:
 
 
 def applying(call: Call) -> List[int]:
-    """Every refusal that applies, in the order of the tests; those that a field outside its limits leaves without sense are passed over."""
-    numbers = []
+    """Every refusal that applies, in the order of the tests; once a field is outside its limits, only the tests that keep a sense."""
+    numbers: List[int] = []
     for number, applies in call.tests:
+        if 6 in numbers and number not in (7, 13, 15, 16):
+            continue
         try:
             if applies():
                 numbers.append(number)
@@ -162,15 +164,19 @@ def opening_tests(nodes, faulty, rows, capacity, quorums, weak, areas_long_enoug
     ] + table_tests(nodes, faulty, quorums, weak)
 
 
-def open_room(nodes, faulty, rows, capacity, quorum_masks, weak_masks, areas_long_enough=lambda: True):
-    """The reply of the opening and, with reply 0, the room."""
+def opening(nodes, faulty, rows, capacity, quorum_masks, weak_masks, areas_long_enough=lambda: True) -> Call:
     quorums = [members(mask) for mask in quorum_masks]
     weak = [members(mask) for mask in weak_masks]
-    tests = opening_tests(nodes, faulty, rows, capacity, quorums, weak, areas_long_enough)
-    reply = settle(Call(tests, lambda: ()))
+    return Call(opening_tests(nodes, faulty, rows, capacity, quorums, weak, areas_long_enough), lambda: ())
+
+
+def open_room(nodes, faulty, rows, capacity, quorum_masks, weak_masks, areas_long_enough=lambda: True):
+    """The reply of the opening and, with reply 0, the room."""
+    reply = settle(opening(nodes, faulty, rows, capacity, quorum_masks, weak_masks, areas_long_enough))
     if reply.number != 0:
         return reply, None
-    return reply, Room(nodes, faulty, rows, capacity, quorums, weak)
+    return reply, Room(nodes, faulty, rows, capacity,
+                       [members(mask) for mask in quorum_masks], [members(mask) for mask in weak_masks])
 
 
 # ---- limits -------------------------------------------------------------------------------

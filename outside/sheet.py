@@ -152,7 +152,7 @@ def run_sheet(sheet: bytes, note=None) -> bytes:
         note("heading", 19, [19])
         return BAD
     reply, room = rules.open_room(*counts, quorums, weak)
-    note("open", reply.number, [])
+    note("open", reply.number, rules.applying(rules.opening(*counts, quorums, weak)))
     out = [answer_line("open", reply)]
     if reply.number != 0:
         return out[0]
