@@ -619,6 +619,21 @@ def made_up_frames(rng) -> Iterator[frames.Frame]:
         yield step_frame(rng, room, made_up_step(rng, room, ballot, tube))
 
 
+def relay_frames(rng) -> Iterator[frames.Frame]:
+    """2av with its 1c on the board and a cell that mostly allows it, so that the heard 1b messages decide."""
+    room, ballot, tube = made_up_room(rng)
+    second = rng.randint(1, min(2, len(room.intake)))
+    for one in (tube, second):
+        room.append(rules.Post1c(1, ballot, one))
+    room.capacity = len(room.board) + rng.choice([0, 1, 1, 1, 5])
+    for node in range(room.nodes):
+        cell = room.cells[(node, 1)]
+        room.cells[(node, 1)] = replace(cell, max_bal=rng.choice([None, ballot, max(0, ballot - 1)]),
+                                        pairs=tuple(pair for pair in cell.pairs if pair[1] < ballot))
+        if seldom(rng, 2):
+            yield step_frame(rng, room, ("2av", (1, ballot, node, rng.choice([tube, tube, second]))))
+
+
 def book_frames(rng) -> Iterator[frames.Frame]:
     """Rows chosen, repeated, split and left open in any mixture; each row asked, and the book written."""
     room = open_with(any_room(rng), rng.choice([1, 2, 3, 4, 6]), 1024)
@@ -778,6 +793,8 @@ def shortened(rng, room, frame: frames.Frame) -> frames.Frame:
 
 def step_outside_limits(rng, room, name: str) -> frames.Frame:
     """A call of this name with a field outside its limits (book has none)."""
+    if name == "foreign other":
+        return other_kind_frame(rng, room, lent(rng, room, frames.FOREIGN))
     row, ballot, node = rng.choice([(0, 0, 0), (room.rows + 1, 0, 0), (1, 16, 0), (257, 0, 0)])
     numbers = {"1a": (row, ballot), "1b": (row, ballot, node), "1c": (row, ballot, 1), "2av": (row, ballot, node, 1),
                "2b": (row, ballot, node, 1), "hear": (room.nodes, 0), "scan": (256, 0), "ask": (0,), "book": (),
@@ -795,7 +812,8 @@ def some_made_room(rng) -> rules.Room:
     return room
 
 
-NAMES_OF_STEPS = ("1a", "1b", "1c", "2av", "2b", "hear", "scan", "foreign1b", "foreign2av", "foreign2b", "ask", "book")
+NAMES_OF_STEPS = ("1a", "1b", "1c", "2av", "2b", "hear", "scan", "foreign1b", "foreign2av", "foreign2b",
+                  "foreign other", "ask", "book")
 
 
 def damaged_frames(rng) -> Iterator[frames.Frame]:
@@ -931,6 +949,7 @@ def all_frames(seed: int = 1, size: float = 1.0) -> Iterator[frames.Frame]:
     parts = [
         (70, lambda rng, number: run_frames(rng, 10)),
         (480, lambda rng, number: made_up_frames(rng)),
+        (250, lambda rng, number: relay_frames(rng)),
         (90, lambda rng, number: posted_already_frames(rng)),
         (90, lambda rng, number: book_frames(rng)),
         (110, lambda rng, number: damaged_frames(rng)),
