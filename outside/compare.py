@@ -311,12 +311,13 @@ def main() -> int:
     parser.add_argument("--self", action="store_true", dest="itself", help="compare this program with itself run as processes")
     parser.add_argument("--sheets", type=int, default=2000, help="how many random sheets")
     parser.add_argument("--size", type=float, default=1.0, help="how many random frames, 1 being about 5,800")
+    parser.add_argument("--every", type=int, default=1, help="run the other sheet program on every so many random sheets")
     parser.add_argument("--keep", default=os.path.join(tempfile.gettempdir(), "outside-failed"), help="folder for failed inputs")
     given = parser.parse_args()
 
     sheet_command = shlex.split(given.sheet) if given.sheet else None
     probe_command = shlex.split(given.probe) if given.probe else None
-    every = 1
+    every = given.every
     if given.itself:
         sheet_command = [sys.executable, os.path.join(HERE, "sheet.py")]
         probe_command = [sys.executable, os.path.join(HERE, "frames.py")]

@@ -558,7 +558,15 @@ def made_up_1b(rng, ballot: int, node: int, scanned: int) -> rules.Post1b:
     return rules.Post1b(1, ballot, node, small_ballot(rng, min(15, ballot)), mval, pairs)
 
 
-def made_up_room(rng) -> Tuple[rules.Room, int, int]:
+def leaning_1b(rng, ballot: int, node: int, tube: int, c: int) -> rules.Post1b:
+    """A 1b as known safe asks for above ballot c, now and then just off it."""
+    mbal = rng.choice([None, c, c, max(0, c - 1)]) if not seldom(rng, 12) else min(15, c + 1)
+    mval = tube if not seldom(rng, 10) else rng.choice([None, 1])
+    high = min(15, c + rng.choice([0, 1, 1, 1, 2, 2]))
+    return rules.Post1b(1, ballot, node, mbal, mval, ((tube, high),) if not seldom(rng, 4) else ())
+
+
+def made_up_room(rng, leaning=False) -> Tuple[rules.Room, int, int]:
     """A room bent upon row 1, one ballot and one tube; those two are told as well."""
     shape = rng.choice(SMALL_ROOMS[3:]) if not seldom(rng, 4) else any_room(rng)
     room = open_with(shape, rng.choice([1, 1, 2]), 1024)
@@ -568,10 +576,11 @@ def made_up_room(rng) -> Tuple[rules.Room, int, int]:
     tube = rng.choice([1, 1, 2, scanned]) if scanned > 1 else 1
     posts = [rules.Post1a(1, ballot)] if not seldom(rng, 4) else []
     posts += [rules.Post1c(1, ballot, one) for one in sorted({tube, rng.randint(1, scanned)}) if not seldom(rng, 10)]
-    none_at_all = seldom(rng, 3)
+    none_at_all = seldom(rng, 3) and not leaning
+    c = rng.randrange(max(1, ballot))
     for node in range(room.nodes):
         for _ in range(rng.choice([0, 1, 1, 1, 2])):
-            post = made_up_1b(rng, ballot, node, scanned)
+            post = leaning_1b(rng, ballot, node, tube, c) if leaning else made_up_1b(rng, ballot, node, scanned)
             posts.append(replace(post, mbal=None) if none_at_all else post)
         if not seldom(rng, 3):
             posts.append(rules.Post2av(1, ballot, node, tube))
@@ -621,7 +630,7 @@ def made_up_frames(rng) -> Iterator[frames.Frame]:
 
 def relay_frames(rng) -> Iterator[frames.Frame]:
     """2av with its 1c on the board and a cell that mostly allows it, so that the heard 1b messages decide."""
-    room, ballot, tube = made_up_room(rng)
+    room, ballot, tube = made_up_room(rng, leaning=not seldom(rng, 3))
     second = rng.randint(1, min(2, len(room.intake)))
     for one in (tube, second):
         room.append(rules.Post1c(1, ballot, one))

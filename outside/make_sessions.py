@@ -584,6 +584,8 @@ def long_lines():
           text(["answer=0", "answer=19"] + total(0, 0, 0, 0)))
     store("steps-70000-bytes-without-newline", text(one_room()) + b"z" * 70000,
           text(["answer=0", "answer=19"] + total(0, 0, 0, 0)))
+    many = [(f"do=1a row=1 ballot={k % 16}", 0) if k % 3 else ("x" * (k % 41), 19) for k in range(6000)]
+    session("steps-six-thousand-lines", one_room(), many, total(0, 0, 0, 0))
     store("steps-every-byte-but-newline", text(one_room()) + b"".join(bytes([b]) + b"\n" for b in range(256) if b != 10),
           text(["answer=0"] + ["answer=19"] * 255 + total(0, 0, 0, 0)))
 
