@@ -91,25 +91,23 @@ class Tally:
         elif self.shown == SHOWN + 1:
             print("further differences are counted, not shown")
 
-    def kept(self, name: str, text: str) -> str:
+    def kept(self, name: str, given: bytes) -> str:
         os.makedirs(self.keep, exist_ok=True)
         path = os.path.join(self.keep, name)
-        with open(path, "w") as out:
-            out.write(text)
+        with open(path, "wb") as out:
+            out.write(given)
         return path
 
 
 # ---- sheets -------------------------------------------------------------------------------
 
 def output_of(command, given: bytes):
-    """What a program prints, or None if it takes too long."""
+    """What a program prints and what went wrong besides (nothing, as a rule)."""
     try:
-        return subprocess.run(command, input=given, stdout=subprocess.PIPE, stderr=subprocess.DEVNULL,
-                              timeout=LONGEST_WAIT).stdout
-    except subprocess.TimeoutExpired:
-        return None
-    except BrokenPipeError:
-        return b""
+        done = subprocess.run(command, input=given, stdout=subprocess.PIPE, stderr=subprocess.DEVNULL, timeout=LONGEST_WAIT)
+    except subprocess.TimeoutExpired as late:
+        return late.stdout or b"", "it took too long"
+    return done.stdout, f"it was ended by signal {-done.returncode}" if done.returncode < 0 else ""
 
 
 def first_difference(expected: bytes, got: bytes) -> str:
@@ -120,13 +118,12 @@ def first_difference(expected: bytes, got: bytes) -> str:
     return "no difference"
 
 
-def compare_sheet(tally: Tally, title: str, given: bytes, expected: bytes, got) -> None:
-    if got == expected:
+def compare_sheet(tally: Tally, title: str, given: bytes, expected: bytes, got: bytes, wrong: str = "") -> None:
+    if got == expected and not wrong:
         tally.good()
         return
-    what = "took too long" if got is None else first_difference(expected, got)
-    path = tally.kept(title.replace(" ", "-").replace("/", "-") + ".sheet.txt", repr(given))
-    tally.bad(title, what, "its sheet: " + repr(given[:1500]), "whole in " + path)
+    path = tally.kept(title.replace(" ", "-") + ".sheet", given)
+    tally.bad(title, wrong or first_difference(expected, got), "its sheet: " + repr(given[:1500]), "whole in " + path)
 
 
 def stored_sessions(tally: Tally, command) -> None:
@@ -136,14 +133,14 @@ def stored_sessions(tally: Tally, command) -> None:
             given, expected = one.read(), other.read()
         compare_sheet(tally, f"session {name}, this program", given, expected, sheet.run_sheet(given, tally.note))
         if command:
-            compare_sheet(tally, f"session {name}", given, expected, output_of(command, given))
+            compare_sheet(tally, f"session {name}", given, expected, *output_of(command, given))
 
 
 def random_sheets(tally: Tally, command, count: int, every: int) -> None:
     for number, given in enumerate(generate.sheets(count)):
         expected = sheet.run_sheet(given, tally.note)
         if command and number % every == 0:
-            compare_sheet(tally, f"random sheet {number}", given, expected, output_of(command, given))
+            compare_sheet(tally, f"random sheet {number}", given, expected, *output_of(command, given))
 
 
 # ---- frames -------------------------------------------------------------------------------
@@ -231,7 +228,7 @@ def tell_frame(frame: frames.Frame, expected: bytes, got: bytes):
 def compare_run(tally: Tally, command, first: int, some) -> None:
     """Some frames in one run of the probe; where it ends early, a new run takes the frames after that."""
     while some:
-        got = output_of(command, b"".join(image for _, image, _ in some)) or b""
+        got, wrong = output_of(command, b"".join(image for _, image, _ in some))
         place = 0
         for number, (frame, image, expected) in enumerate(some):
             part = got[place:place + len(expected)]
@@ -239,13 +236,13 @@ def compare_run(tally: Tally, command, first: int, some) -> None:
             if part == expected:
                 tally.good()
                 continue
-            path = tally.kept(f"frame-{first + number}.hex", image.hex() + "\n" + expected.hex() + "\n")
+            path = tally.kept(f"frame-{first + number}.hex", (image.hex() + "\n" + expected.hex() + "\n").encode())
             tally.bad(f"frame {first + number}", *tell_frame(frame, expected, part), "frame and wanted reply in " + path)
             if len(part) < len(expected):
                 break
         else:
-            if len(got) > place:
-                tally.bad(f"frames {first} on: {len(got) - place} bytes too many")
+            if len(got) > place or wrong:
+                tally.bad(f"frames {first} to {first + number}", wrong or f"{len(got) - place} bytes too many")
             return
         first, some = first + number + 1, some[number + 1:]
 
@@ -274,10 +271,10 @@ def ends_of_input(tally: Tally, command) -> None:
     cases += [("a frame cut by %d bytes" % cut, good + good[:-cut], expected) for cut in (1, 600, len(good) - 1)]
     cases += [("no frame at all", b"", b"")]
     for title, given, wanted in cases:
-        if output_of(command, given) == wanted:
+        if output_of(command, given)[0] == wanted:
             tally.good()
         else:
-            path = tally.kept(title.replace(" ", "-") + ".hex", given.hex() + "\n")
+            path = tally.kept(title.replace(" ", "-") + ".hex", (given.hex() + "\n").encode())
             tally.bad(title, "in " + path)
 
 
@@ -329,7 +326,7 @@ def main() -> int:
     def said(what: str) -> None:
         nonlocal began
         print(f"{what}: {time.time() - began:.1f} s", flush=True)
-        began = time.time()
+        began, tally.shown = time.time(), 0
 
     stored_sessions(tally, sheet_command)
     said("stored sessions")
