@@ -58,8 +58,8 @@ shown-sound c v x y ps t = let z = any-sound (λ (p : Pair). eqb (p .0) v && rea
     go : (w k : ℕ) → List·Memᴰ (w, k) ps → T (eqb w v && reaches c k) → Shown c v x y ps
     go w k m h =
         let e : v ≡ w = sym (eqb→eq w v (and-l (eqb w v) (reaches c k) h)) in
-        let l : c < k = ltb→lt c k (and-r (eqb w v) (reaches c k) h) in
-        (k, rw e m, omega arith)
+        let t : T (reaches c k) = and-r (eqb w v) (reaches c k) h in
+        (k, rw e m, omega (arith, leb→le))
 
 module _ (ρ : Room) (good : ℕ → Type 0) where
   abbrev σ : Sets
