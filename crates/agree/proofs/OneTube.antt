@@ -1,8 +1,8 @@
 -- No row has two chosen tubes: the nodes not marked in the end kept the rules all along, and they are enough.
 use mathlib.Core.Path.{_≡_, refl}
-use mathlib.Core.Bool.{Bool, true, false, _&&_}
+use mathlib.Core.Bool.{Bool, _&&_}
 use mathlib.Core.List.{List, [], _∷_, List·Memᴰ}
-use Prim.Native.Nat.{ℕ, zero, suc, _≤_, _<_}
+use Prim.Native.Nat.{ℕ, _≤_, _<_}
 use native.Mathlib.Omega.{arith}
 use lib.Dec.{T, ltb→lt}
 use Rattle.rules.specs.Tests.{all, bit, count, first}
@@ -13,7 +13,7 @@ use Rattle.rules.proofs.Overlap.{pigeon}
 use Rattle.rules.proofs.Sound.{and-l, and-r, all-sound, Clear, clear}
 use Rattle.agree.specs.Room.{blank, step, run}
 use Rattle.agree.specs.Agreement.{OneTube}
-use Rattle.agree.proofs.Safe.{Sets, Fit, Inv, step-inv, start-inv, one-chosen}
+use Rattle.agree.proofs.Safe.{Fit, Inv, step-inv, start-inv, one-chosen}
 use Rattle.agree.proofs.Link.{view, Sub, Member, sets, chosen-sound, Next, still, link-step}
 use Rattle.agree.proofs.Grow.{marks-grow}
 

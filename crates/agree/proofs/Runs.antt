@@ -1,5 +1,5 @@
 -- The two runs end as they should: one claim that the checker computes.
-use mathlib.Core.Path.{_≡_, refl}
+use mathlib.Core.Path.{refl}
 use Rattle.rules.specs.Tests.{count}
 use Rattle.rules.specs.Lent.{msgAt, meaning, stored, heardAt, counts, long, limits, scanned, plainMsg, goodMsg, plainCell, goodCell, houseForm, boardForm, cellsForm, heardForm, inForm}
 use Rattle.rules.specs.Steps.{post, write}

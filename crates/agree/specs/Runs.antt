@@ -1,11 +1,10 @@
 -- Two whole runs in the four room, from opening to a row's outcome: with f foreign stations, and with f + 1.
 use mathlib.Core.Path.{_≡_}
-use mathlib.Core.Bool.{Bool, true, false}
 use mathlib.Core.List.{List, [], _∷_, _++_, map}
-use Prim.Native.Nat.{ℕ, zero, suc}
+use Prim.Native.Nat.{ℕ}
 use Rattle.rules.specs.Tests.{bit, count}
 use Rattle.rules.specs.Words.{Room}
-use Rattle.rules.specs.Lent.{Memory, roomOf, read}
+use Rattle.rules.specs.Lent.{roomOf, read}
 use Rattle.rules.specs.Steps.{Call, scan, c1a, c1b, c1c, c2av, c2b, hear, foreign, p2av, p2b}
 use Rattle.rules.specs.Book.{Outcome, agreed, split, outcome}
 use Rattle.rules.specs.Replies.{runs}
