@@ -1,5 +1,5 @@
 -- The board and the marks only grow, so what was chosen stays chosen.
-use mathlib.Core.Path.{_≡_, refl, sym}
+use mathlib.Core.Path.{_≡_}
 use mathlib.Core.Bool.{Bool, true, false, not, _&&_, _||_}
 use mathlib.Core.Logic.{_⊎_, inl, inr}
 use mathlib.Core.List.{List, [], _∷_, List·Memᴰ, List·Memᴰ·not-nil, List·Memᴰ·cases-cons}
@@ -7,9 +7,9 @@ use Prim.Native.Nat.{ℕ, zero, suc}
 use lib.Dec.{T, eqb}
 use Rattle.rules.specs.Tests.{pick, any, bit, allIn, first}
 use Rattle.rules.specs.Words.{Msg, Room, State}
-use Rattle.rules.specs.Steps.{Call, Effect, stays, scans, sends, acts, hears, posts, covers, is2b, chosen, effect, put}
+use Rattle.rules.specs.Steps.{Call, Effect, stays, scans, sends, acts, hears, posts, covers, is2b, effect, put}
 use Rattle.rules.specs.Replies.{rules}
-use Rattle.rules.proofs.Sound.{and-l, and-r, or-cases, or-l, or-r, any-sound, add-keep}
+use Rattle.rules.proofs.Sound.{or-cases, or-l, or-r, any-sound, add-keep}
 use Rattle.agree.specs.Room.{step, run}
 use Rattle.agree.specs.Agreement.{Stays, MarksGrow}
 use Rattle.agree.proofs.Link.{Sub}

@@ -2,3 +2,4 @@ pub mod Safe
 pub mod Link
 pub mod Grow
 pub mod OneTube
+pub mod Runs

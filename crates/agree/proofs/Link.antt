@@ -1,22 +1,20 @@
 -- Each call of the room is a step of proofs/Safe in every row.
-use mathlib.Core.Path.{_≡_, refl, sym, ap, _∙_, subst}
+use mathlib.Core.Path.{_≡_, refl, sym, _∙_, subst}
 use mathlib.Core.Bool.{Bool, true, false, not, _&&_, _||_}
 use mathlib.Core.Logic.{_⊎_, inl, inr, ⊎-map}
 use mathlib.Core.Option.{Option, some, none}
 use mathlib.Core.List.{List, [], _∷_, _++_, List·Memᴰ, List·Memᴰ·head, List·Memᴰ·append-cases, List·Memᴰ·eq-of-singleton, Memᴰ·append-left, Memᴰ·append-right}
-use Prim.Native.Nat.{ℕ, zero, suc, _+_, _≤_, _<_}
+use Prim.Native.Nat.{ℕ, suc, _<_}
 use native.Mathlib.Decide.{ℕ-discrete}
 use native.Mathlib.Omega.{arith}
 use lib.Dec.{T, eqb, leb, ltb, leb→le, ltb→lt, eqb→eq, eqb-refl}
 use Rattle.rules.specs.Tests.{pick, any, all, anyBelow, bit, allIn, first}
 use Rattle.rules.specs.Words.{Pair, Msg, m1a, m1b, m1c, m2av, m2b, Cell, Room, State}
-use Rattle.rules.specs.Steps.{Post, p1b, p2av, p2b, Call, scan, c1a, c1b, c1c, c2av, c2b, hear, foreign, ask, book, told, without, posted, poster, covers, is2av, is2b, relayed, chosen, heardFrom, tells, empty, low, reaches, shown, known, acts, effect, add, put}
-use Rattle.rules.specs.Steps as steps
+use Rattle.rules.specs.Steps.{Post, p1b, p2av, p2b, other, Call, scan, c1a, c1b, c1c, c2av, c2b, hear, foreign, ask, book, told, without, posted, poster, covers, is2av, is2b, relayed, chosen, heardFrom, tells, empty, low, reaches, shown, known, acts, effect, add, put}
 use Rattle.rules.specs.Replies.{fields, rules}
 use Rattle.rules.proofs.Sound.{and-l, and-r, or-cases, or-l, not-or, any-sound, all-sound, below-sound, in-sound, same-msg, add-keep, add-fresh, add-new, heard-on, set-same, set-node, set-row, without-sub, without-keep, clear}
 use Rattle.agree.specs.Room.{step}
-use Rattle.agree.proofs.Safe.{View, On, rowOf, nodeOf, Sets, Tells, Empty, Low, Shown, Known, after, Backed, Chosen, Sends, Step, noise, do1b, do2av, do2b}
-use Rattle.agree.proofs.Safe as safe
+use Rattle.agree.proofs.Safe.{View, On, rowOf, nodeOf, Sets, Tells, Empty, Low, Shown, Known, unvoted, after, Backed, Chosen, Sends, Step, noise, do1b, do2av, do2b}
 
 -- a row as proofs/Safe sees it: all that was ever sent, and the cells now
 abbrev pub view : ℕ → List Msg → State → View
@@ -58,8 +56,8 @@ shown-sound c v x y ps t = let z = any-sound (λ (p : Pair). eqb (p .0) v && rea
     go : (w k : ℕ) → List·Memᴰ (w, k) ps → T (eqb w v && reaches c k) → Shown c v x y ps
     go w k m h =
         let e : v ≡ w = sym (eqb→eq w v (and-l (eqb w v) (reaches c k) h)) in
-        let l : c < k = ltb→lt c k (and-r (eqb w v) (reaches c k) h) in
-        (k, rw e m, omega arith)
+        let t : T (reaches c k) = and-r (eqb w v) (reaches c k) h in
+        (k, rw e m, omega (arith, leb→le))
 
 module _ (ρ : Room) (good : ℕ → Type 0) where
   abbrev σ : Sets
@@ -100,7 +98,7 @@ module _ (ρ : Room) (good : ℕ → Type 0) where
           (z .0, z .1, λ a i. let y = z .2 a i in tells-sound f P k (view r h s) r b a (y .0) (sub (y .0) (heard-on (s .heard n) 0 (s .board) (y .0) (y .1))) (y .2))
 
       go : T (covers ρ (ρ .quorums) (tells empty r b) l) ⊎ T (anyBelow p b) → Known r σ (view r h s) b v
-      go (inl u) = let z = told-by (ρ .quorums) empty Empty empty-sound u in safe.first (z .0) (z .1) (z .2)
+      go (inl u) = let z = told-by (ρ .quorums) empty Empty empty-sound u in unvoted (z .0) (z .1) (z .2)
       go (inr u) =
           let c = below-sound p b u in
           let x = covers ρ (ρ .quorums) (tells (low (c .0) v) r b) l in
@@ -145,9 +143,9 @@ module _ (ρ : Room) (good : ℕ → Type 0) where
       go (inr e) = rw e (add-new m h)
 
   -- a message of another row, of no node, or of a node that breaks the rules
-  other : (r : ℕ) (h : List Msg) (s t : State) (m : Msg) → Sub (s .board) h → t .board ≡ add m (s .board) → ((a : ℕ) → t .cells r a ≡ s .cells r a)
+  aside : (r : ℕ) (h : List Msg) (s t : State) (m : Msg) → Sub (s .board) h → t .board ≡ add m (s .board) → ((a : ℕ) → t .cells r a ≡ s .cells r a)
       → ((a : ℕ) → good a → rowOf m ≡ r → nodeOf m ≡ some a → ⊥) → Next r h s t
-  other r h s t m sub eb ec no′ = record {
+  aside r h s t m sub eb ec no′ = record {
     hist = add m h;
     sub = λ x o. add-sub m (s .board) h sub x (rw eb at o);
     keep = λ x o. add-keep m h x o;
@@ -180,7 +178,7 @@ module _ (ρ : Room) (good : ℕ → Type 0) where
 
       go : Dec (q ≡ r) → Next r h s (put s (acts m q n c))
       go (yes z) = subst (λ (x : ℕ). Next x h s (put s (acts m q n c))) z here
-      go (no z) = other r h s (put s (acts m q n c)) m sub refl (λ a. set-row (s .cells) q n c r a (λ y. z (sym y))) (λ a g y k. z (sym e ∙ y))
+      go (no z) = aside r h s (put s (acts m q n c)) m sub refl (λ a. set-row (s .cells) q n c r a (λ y. z (sym y))) (λ a g y k. z (sym e ∙ y))
 
   split-last : (ps : List Pair) (p x : Pair) → List·Memᴰ x (ps ++ (p ∷ [])) → List·Memᴰ x ps ⊎ (x ≡ p)
   split-last ps p x m = go (List·Memᴰ·append-cases ps m)
@@ -195,16 +193,16 @@ module _ (ρ : Room) (good : ℕ → Type 0) where
   posts-mark s (p1b q b n x y k l) t a e = let z : a ≡ n = cc in or-l (eqb a n) (s .marks a) (rw z (eqb-refl n))
   posts-mark s (p2av q b n v) t a e = let z : a ≡ n = cc in or-l (eqb a n) (s .marks a) (rw z (eqb-refl n))
   posts-mark s (p2b q b n v) t a e = let z : a ≡ n = cc in or-l (eqb a n) (s .marks a) (rw z (eqb-refl n))
-  posts-mark s steps.other t a e = absurd t
+  posts-mark s other t a e = absurd t
 
   link : (r : ℕ) (h : List Msg) (s : State) (c : Call) → Sub (s .board) h → first (rules ρ s c) ≡ 0
       → ((n : ℕ) → T ((put s (effect s c)) .marks n) → ¬ good n) → Next r h s (put s (effect s c))
   link r h s (scan a b) sub e bad = still r h s (put s (effect s (scan a b))) sub (λ a g. refl)
-  link r h s (c1a q b) sub e bad = other r h s (put s (effect s (c1a q b))) (m1a q b) sub refl (λ a. refl) (λ a g y k. nobody a k)
+  link r h s (c1a q b) sub e bad = aside r h s (put s (effect s (c1a q b))) (m1a q b) sub refl (λ a. refl) (λ a g y k. nobody a k)
   link r h s (c1b q n b) sub e bad =
       let z = clear (rules ρ s (c1b q n b)) tt e in
       seen r q n h s (told s q n b) _ sub refl (λ d. do1b n b (leb→le ((s .cells q n) .maxBal) b (search)) d)
-  link r h s (c1c q b v) sub e bad = other r h s (put s (effect s (c1c q b v))) (m1c q b v) sub refl (λ a. refl) (λ a g y k. nobody a k)
+  link r h s (c1c q b v) sub e bad = aside r h s (put s (effect s (c1c q b v))) (m1c q b v) sub refl (λ a. refl) (λ a g y k. nobody a k)
   link r h s (c2av q n b v) sub e bad =
       let z = clear (rules ρ s (c2av q n b v)) tt e in
       let ps = (s .cells q n) .pairs in
@@ -223,7 +221,7 @@ module _ (ρ : Room) (good : ℕ → Type 0) where
   link r h s (hear n k) sub e bad = still r h s (put s (effect s (hear n k))) sub (λ a g. refl)
   link r h s (foreign p) sub e bad =
       let z = clear (rules ρ s (foreign p)) tt e in
-      other r h s (put s (effect s (foreign p))) (posted p) sub refl (λ a. refl) (λ a g y k. bad a (posts-mark s p (z .0) a k) g)
+      aside r h s (put s (effect s (foreign p))) (posted p) sub refl (λ a. refl) (λ a g y k. bad a (posts-mark s p (z .0) a k) g)
   link r h s (ask q) sub e bad = still r h s s sub (λ a g. refl)
   link r h s (book p q) sub e bad = still r h s s sub (λ a g. refl)
 

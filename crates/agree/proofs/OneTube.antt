@@ -1,8 +1,8 @@
 -- No row has two chosen tubes: the nodes not marked in the end kept the rules all along, and they are enough.
 use mathlib.Core.Path.{_≡_, refl}
-use mathlib.Core.Bool.{Bool, true, false, _&&_}
+use mathlib.Core.Bool.{Bool, _&&_}
 use mathlib.Core.List.{List, [], _∷_, List·Memᴰ}
-use Prim.Native.Nat.{ℕ, zero, suc, _≤_, _<_}
+use Prim.Native.Nat.{ℕ, _≤_, _<_}
 use native.Mathlib.Omega.{arith}
 use lib.Dec.{T, ltb→lt}
 use Rattle.rules.specs.Tests.{all, bit, count, first}
@@ -13,8 +13,8 @@ use Rattle.rules.proofs.Overlap.{pigeon}
 use Rattle.rules.proofs.Sound.{and-l, and-r, all-sound, Clear, clear}
 use Rattle.agree.specs.Room.{blank, step, run}
 use Rattle.agree.specs.Agreement.{OneTube}
-use Rattle.agree.proofs.Safe.{Sets, Fit, Inv, step-inv, start-inv, one-chosen}
-use Rattle.agree.proofs.Link.{view, Sub, Member, sets, chosen-sound, Next, link-step}
+use Rattle.agree.proofs.Safe.{Fit, Inv, step-inv, start-inv, one-chosen}
+use Rattle.agree.proofs.Link.{view, Sub, Member, sets, chosen-sound, Next, still, link-step}
 use Rattle.agree.proofs.Grow.{marks-grow}
 
 -- the nodes that are not marked
@@ -83,12 +83,27 @@ module _ (ρ : Room) (good : ℕ → Type 0) (fit : Fit (sets ρ good)) where
       one-chosen r (sets ρ good) fit (view r (i .hist) t) v w (i .inv)
       (chosen-sound ρ good (i .hist) s t (i .keep) r b v x) (chosen-sound ρ good (i .hist) t t (i .sub) r c w y)
 
-pub one-tube : OneTube
-one-tube ρ ok cs ds le r b c v w x y =
+-- What a loss may do: messages go, a node that lost a cell is marked, marks stay.
+pub record Lost (s t : State) : Type 0 where
+  pub board : Sub (t .board) (s .board)
+  pub cells : (r n : ℕ) → ¬ T (t .marks n) → t .cells r n ≡ s .cells r n
+  pub marks : (n : ℕ) → T (s .marks n) → T (t .marks n)
+
+pub after-loss : (ρ : Room) → first (tables ρ) ≡ 0 → (cs ds : List Call) (t : State) → Lost (run ρ blank cs) t
+    → count ((run ρ t ds) .marks) (ρ .nodes) ≤ ρ .faulty
+    → (r b c v w : ℕ) → T (chosen ρ (run ρ blank cs) r b v) → T (chosen ρ (run ρ t ds) r c w) → v ≡ w
+after-loss ρ ok cs ds t lost le r b c v w x y =
     let s = run ρ blank cs in
-    let t = run ρ s ds in
-    let good = Unmarked (t .marks) in
-    let fit = fits ρ ok (t .marks) le in
-    let i = run-hist ρ good fit r [] blank cs (λ n u g. g (marks-grow ρ s ds n u)) (open-hist ρ good fit r) in
-    let j = run-hist ρ good fit r (s .board) s ds (λ n u g. g u) (again ρ good fit r [] s i) in
-    agree ρ good fit r s t j b c v w x y
+    let m = (run ρ t ds) .marks in
+    let good = Unmarked m in
+    let fit = fits ρ ok m le in
+    let i = run-hist ρ good fit r [] blank cs (λ n u g. g (marks-grow ρ t ds n (lost .marks n u))) (open-hist ρ good fit r) in
+    let p = again ρ good fit r [] s i in
+    let k = move-hist ρ good fit r (s .board) s t p
+    (still ρ good r (p .hist) s t (λ z o. p .sub z (lost .board z o)) (λ a g. lost .cells r a (λ u. g (marks-grow ρ t ds a u)))) in
+    let j = run-hist ρ good fit r (s .board) t ds (λ n u g. g u) k in
+    agree ρ good fit r s (run ρ t ds) j b c v w x y
+
+-- nothing lost
+pub one-tube : OneTube
+one-tube ρ ok cs ds = after-loss ρ ok cs ds (run ρ blank cs) (record { board = λ x o. o; cells = λ r n u. refl; marks = λ n u. u })

@@ -2,8 +2,8 @@
 use mathlib.Core.Path.{_≡_, refl, sym, ap, _∙_, subst}
 use mathlib.Core.Logic.{_⊎_, inl, inr}
 use mathlib.Core.Option.{Option, some, none}
-use mathlib.Core.List.{List, [], _∷_, List·Memᴰ, List·Memᴰ·not-nil}
-use Prim.Native.Nat.{ℕ, zero, suc, _+_, _≤_, _<_}
+use mathlib.Core.List.{List, [], List·Memᴰ, List·Memᴰ·not-nil}
+use Prim.Native.Nat.{ℕ, suc, _≤_, _<_}
 use native.Mathlib.Decide.{decLt, ℕ-discrete}
 use native.Mathlib.Omega.{arith}
 use Rattle.rules.specs.Words.{Pair, Msg, m1a, m1b, m1c, m2av, m2b, kindOf, Cell}
@@ -95,7 +95,7 @@ module _ (r : ℕ) (σ : Sets) where
     pub holds : P mbal mval ps
 
   pub data Known (s : View) (b v : ℕ) : Type 0 where
-    first : (q : ℕ) → σ .Quorum q → ((a : ℕ) → σ .In a q → Tells s b a Empty) → Known s b v
+    unvoted : (q : ℕ) → σ .Quorum q → ((a : ℕ) → σ .In a q → Tells s b a Empty) → Known s b v
     after : (c : ℕ) → c < b → (q : ℕ) → σ .Quorum q → ((a : ℕ) → σ .In a q → Tells s b a (Low c v))
         → (w : ℕ) → σ .Weak w → ((a : ℕ) → σ .In a w → Tells s b a (Shown c v)) → Known s b v
 
@@ -188,7 +188,7 @@ module _ (r : ℕ) (σ : Sets) where
         }
 
     pub known-safe : (s : View) (b v : ℕ) → Inv s → Known s b v → SafeAt s b v
-    known-safe s b v i (first q l f) c lt = record {
+    known-safe s b v i (unvoted q l f) c lt = record {
       set = q;
       listed = l;
       all = λ a m g. let h = f a m in let t = i a g .tells b (h .mbal) (h .mval) (h .ps) (h .on) in record {

@@ -1,7 +1,6 @@
 -- The room's run: what calls one after another make of a room, each obeyed or refused by its own tests.
-use mathlib.Core.Bool.{Bool, true, false}
+use mathlib.Core.Bool.{false}
 use mathlib.Core.List.{List, [], _∷_}
-use Prim.Native.Nat.{ℕ, zero, suc}
 use lib.Dec.{eqb}
 use Rattle.rules.specs.Tests.{pick, first}
 use Rattle.rules.specs.Words.{fresh, Room, State}
