@@ -4,3 +4,5 @@ pub mod Sound
 pub mod Area
 pub mod Codec
 pub mod Cases
+pub mod Lists
+pub mod Outcome
