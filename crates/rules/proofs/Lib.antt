@@ -6,3 +6,5 @@ pub mod Codec
 pub mod Cases
 pub mod Lists
 pub mod Outcome
+pub mod Book
+pub mod OneLine

@@ -51,6 +51,10 @@ entered (x ∷ l) = one (not (eqb x 0)) + entered l
 abbrev pub voids : List ℕ → ℕ
 voids l = length l - entered l
 
+-- the void rows are those that hold 0
+abbrev pub Voids : Type 0
+Voids = (l : List ℕ) → voids l ≡ occurs 0 l
+
 -- every scanned tube has one line: in the book or among the waiting, and never two
 abbrev pub OneLine : Type 0
 OneLine = (ρ : Room) (s : State) (t : ℕ) → 1 ≤ t → t ≤ length (s .intake) → occurs t (bookOf ρ s) + occurs t (waitingOf ρ s) ≡ 1
@@ -59,11 +63,15 @@ OneLine = (ρ : Room) (s : State) (t : ℕ) → 1 ≤ t → t ≤ length (s .int
 abbrev pub OneRow : Type 0
 OneRow = (ρ : Room) (s : State) (t q r : ℕ) → 1 ≤ t → 1 ≤ q → 1 ≤ r → entry ρ s q ≡ t → entry ρ s r ≡ t → q ≡ r
 
+-- where a room's tables pass opening and the board's tubes are on intake, the chosen tubes are
+abbrev pub ChosenScanned : Type 0
+ChosenScanned = (ρ : Room) (s : State) → first (tables ρ) ≡ 0 → T (all (scanned (length (s .intake))) (s .board))
+    → (r v : ℕ) → T (chosenIn ρ s r v) → v ≤ length (s .intake)
+
 -- every agreed tube is on intake
 abbrev pub OnIntake : Room → State → Type 0
 OnIntake ρ s = (r v : ℕ) → outcome ρ s r ≡ agreed v → v ≤ length (s .intake)
 
--- a room whose tables pass opening and a board whose tubes are on intake have it
 abbrev pub FromForm : Type 0
 FromForm = (ρ : Room) (s : State) → first (tables ρ) ≡ 0 → T (all (scanned (length (s .intake))) (s .board)) → OnIntake ρ s
 
