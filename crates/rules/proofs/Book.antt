@@ -157,8 +157,8 @@ module _ (ρ : Room) (s s′ : State) (stay : (r v : ℕ) → outcome ρ s r ≡
   entry-kept r h k =
       let e = tube-kept r h k in
       let a : any (λ q. eqb (rowTube ρ s′ q) (rowTube ρ s r)) (upTo (r - 1)) ≡ any (λ q. eqb (rowTube ρ s q) (rowTube ρ s r)) (upTo (r - 1))
-          = any-same (λ q. eqb (rowTube ρ s′ q) (rowTube ρ s r)) (λ q. eqb (rowTube ρ s q) (rowTube ρ s r)) (upTo (r - 1))
-          (λ q m. let b = up-out (r - 1) q m in ap (λ (x : ℕ). eqb x (rowTube ρ s r)) (tube-kept q (b .0) (omega (arith, b .1)))) in
+      = any-same (λ q. eqb (rowTube ρ s′ q) (rowTube ρ s r)) (λ q. eqb (rowTube ρ s q) (rowTube ρ s r)) (upTo (r - 1))
+      (λ q m. let b = up-out (r - 1) q m in ap (λ (x : ℕ). eqb x (rowTube ρ s r)) (tube-kept q (b .0) (omega (arith, b .1)))) in
       rw (e, a)
 
 pub grows : Grows
@@ -166,13 +166,14 @@ unfolding bookOf
 grows ρ s s′ h =
     let m = reach ρ s in
     let d = reach ρ s′ - reach ρ s in
-    let e : reach ρ s′ ≡ m + d = omega (arith, reach-grows ρ s s′ h) in
-    (map (entry ρ s′) (onwards m d),
-    ap (λ (n : ℕ). map (entry ρ s′) (upTo n)) e
-    ∙ ap (map (entry ρ s′)) (up-more m d)
-    ∙ map-append (entry ρ s′) (upTo m) (onwards m d)
-    ∙ ap (λ (l : List ℕ). l ++ map (entry ρ s′) (onwards m d))
-    (map-same (entry ρ s′) (entry ρ s) (upTo m) (λ r o. let b = up-out m r o in entry-kept ρ s s′ h r (b .0) (b .1))))
+    let e : reach ρ s′ ≡ m + d = omega (arith, reach-grows ρ s s′ h) in (
+      map (entry ρ s′) (onwards m d),
+      ap (λ (n : ℕ). map (entry ρ s′) (upTo n)) e
+          ∙ ap (map (entry ρ s′)) (up-more m d)
+          ∙ map-append (entry ρ s′) (upTo m) (onwards m d)
+          ∙ ap (λ (l : List ℕ). l ++ map (entry ρ s′) (onwards m d))
+          (map-same (entry ρ s′) (entry ρ s) (upTo m) (λ r o. let b = up-out m r o in entry-kept ρ s s′ h r (b .0) (b .1))),
+    )
 
 -- ---- the waiting tubes
 

@@ -197,7 +197,7 @@ pub totals : Totals
 totals ρ s h =
     let e = entered-all (waitingOf ρ s) (λ x m. waiting-scanned ρ s x m .0) in
     let a = each-once (length (s .intake)) (bookOf ρ s ++ waitingOf ρ s) (λ x m. low x (List·Memᴰ·append-cases (bookOf ρ s) m))
-        (λ t l k. occurs-append t (bookOf ρ s) (waitingOf ρ s) ∙ one-line ρ s t l k) in
+    (λ t l k. occurs-append t (bookOf ρ s) (waitingOf ρ s) ∙ one-line ρ s t l k) in
     omega (arith, entered-append (bookOf ρ s) (waitingOf ρ s))
   where
     low : (x : ℕ) → List·Memᴰ x (bookOf ρ s) ⊎ List·Memᴰ x (waitingOf ρ s) → x ≤ length (s .intake)
