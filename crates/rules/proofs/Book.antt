@@ -1,21 +1,21 @@
 -- The book is what one clerk writes, and only grows; how far it reaches, how long it is, what stands in it, why it stops.
 use mathlib.Core.Path.{_≡_, refl, sym, ap, _∙_}
-use mathlib.Core.Bool.{Bool, true, false, not, _&&_, _||_, or-false, or-comm}
+use mathlib.Core.Bool.{Bool, true, false, not, _||_, or-false, or-comm}
 use mathlib.Core.Logic.{_↔_}
 use mathlib.Core.List.{List, [], _∷_, _++_, map, List·Memᴰ, Memᴰ·of-map}
 use Prim.Native.Nat.{ℕ, zero, suc, _+_, _-_, _≤_, _<_}
-use native.Mathlib.Nat.{add-zero, zero-add, add-suc, suc-add}
+use native.Mathlib.Nat.{add-zero, zero-add}
 use native.Mathlib.Decide.{ℕ-discrete}
 use native.Mathlib.Omega.{arith}
 use borrow.Author.Tests.{eqb-true, eqb-false, ne-eqb}
 use lib.Dec.{T, eqb, leb, leb→le}
-use lib.ListN.{length, length-map}
-use Rattle.rules.specs.Tests.{pick, any, keep, upTo}
-use Rattle.rules.specs.Words.{tubeIn, Room, State}
-use Rattle.rules.specs.Book.{Outcome, unchosen, agreed, split, outcome, tubeOf, isAgreed, isSplit, leading, reach, rowTube, void, entry, bookOf, stands, waitingOf, stopped, clerk}
-use Rattle.rules.specs.Laws.{OneClerk, Grows, Reaches, BookLength, EntrySmall, BookSmall, WaitingClimbs, WaitingScanned, WaitingLength, StopsEnded, StopsUnchosen, StopsSplit, climbs}
-use Rattle.rules.proofs.Sound.{and-l, and-r}
-use Rattle.rules.proofs.Lists.{passed, failed, any-append, any-same, map-append, map-same, onwards, up-more, up-onwards, length-up, up-out, keep-out, length-keep, climbs-keep, climbs-up, leading-le, leading-pass, leading-stop, leading-most}
+use lib.ListN.{length, getD, length-map}
+use Rattle.rules.specs.Tests.{pick, any, upTo}
+use Rattle.rules.specs.Words.{Room, State}
+use Rattle.rules.specs.Book.{Outcome, unchosen, agreed, split, outcome, tubeOf, isAgreed, leading, reach, rowTube, void, entry, bookOf, stands, waitingOf, stopped, clerk}
+use Rattle.rules.specs.Laws.{OneClerk, Grows, Reaches, BookLength, EntrySmall, BookSmall, WaitingClimbs, WaitingScanned, WaitingLength, StopsEnded, StopsUnchosen, StopsSplit}
+use Rattle.rules.proofs.Sound.{and-r}
+use Rattle.rules.proofs.Lists.{passed, failed, any-same, any-next, map-append, map-same, map-at, onwards, up-more, up-onwards, length-up, up-out, keep-out, length-keep, climbs-keep, climbs-up, leading-le, leading-pass, leading-stop, leading-most}
 use Rattle.rules.proofs.Outcome.{one-chosen}
 
 -- ---- the rows of the book
@@ -47,7 +47,7 @@ abbrev pub before : Room → State → ℕ → ℕ → Bool
 before ρ s k v = any (λ q. eqb (rowTube ρ s q) v) (upTo k)
 
 pub before-more : (ρ : Room) (s : State) (k v : ℕ) → before ρ s (suc k) v ≡ before ρ s k v || eqb (rowTube ρ s (suc k)) v
-before-more ρ s k v = any-append (λ q. eqb (rowTube ρ s q) v) (upTo k) (suc k ∷ []) ∙ ap (λ (b : Bool). before ρ s k v || b) (or-false (eqb (rowTube ρ s (suc k)) v))
+before-more ρ s k v = any-next (λ q. eqb (rowTube ρ s q) v) k
 
 pub entry-next : (ρ : Room) (s : State) (k : ℕ) → entry ρ s (suc k) ≡ pick (before ρ s k (rowTube ρ s (suc k))) 0 (rowTube ρ s (suc k))
 unfolding entry void
@@ -80,6 +80,10 @@ book-small ρ s x m = let z = book-row ρ s x m in omega (arith, entry-small ρ 
 pub book-length : BookLength
 unfolding bookOf
 book-length ρ s = length-map (upTo (reach ρ s)) (entry ρ s) ∙ length-up (reach ρ s)
+
+pub book-at : (ρ : Room) (s : State) (i : ℕ) → i < reach ρ s → getD (bookOf ρ s) i 0 ≡ entry ρ s (suc i)
+unfolding bookOf
+book-at ρ s i h = map-at (entry ρ s) 0 (reach ρ s) i h
 
 -- ---- one clerk
 

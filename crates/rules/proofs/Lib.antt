@@ -8,3 +8,4 @@ pub mod Lists
 pub mod Outcome
 pub mod Book
 pub mod OneLine
+pub mod Totals

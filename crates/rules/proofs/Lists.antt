@@ -1,15 +1,15 @@
 -- Laws of tests over lists: of `any`, of `keep`, of the numbers from 1 on, of `leading`, and of numbers that climb.
 use mathlib.Core.Path.{_≡_, refl, sym, ap, _∙_}
-use mathlib.Core.Bool.{Bool, true, false, not, _&&_, _||_}
+use mathlib.Core.Bool.{Bool, true, false, _&&_, _||_, or-false}
 use mathlib.Core.Logic.{_⊎_, inl, inr, _↔_}
-use mathlib.Core.List.{List, [], _∷_, _++_, map, append-assoc, append-nil, List·Memᴰ, List·Memᴰ·head, List·Memᴰ·tail, List·Memᴰ·not-nil, List·Memᴰ·cases-cons, List·Memᴰ·append-cases, List·Memᴰ·eq-of-singleton, Memᴰ·append-left, Memᴰ·append-right}
-use Prim.Native.Nat.{ℕ, zero, suc, _+_, _-_, _≤_, _<_}
+use mathlib.Core.List.{List, [], _∷_, _++_, map, append-nil, List·Memᴰ, List·Memᴰ·head, List·Memᴰ·tail, List·Memᴰ·not-nil, List·Memᴰ·cases-cons, List·Memᴰ·append-cases, List·Memᴰ·eq-of-singleton, Memᴰ·append-left, Memᴰ·append-right}
+use Prim.Native.Nat.{ℕ, zero, suc, _+_, _≤_, _<_}
 use native.Mathlib.Nat.{not-suc-le-zero, add-zero, zero-add, add-suc, suc-add}
 use native.Mathlib.Decide.{ℕ-discrete}
 use native.Mathlib.Omega.{arith}
 use borrow.Author.Tests.{eqb-true, eqb-false}
-use lib.Dec.{T, eqb, leb, ltb, leb→le, ltb→lt, lt→ltb, eqb→eq, eqb-refl}
-use lib.ListN.{length, length-append}
+use lib.Dec.{T, eqb, ltb, ltb→lt, lt→ltb}
+use lib.ListN.{length, getD, length-append}
 use lib.Seq.{append-snoc}
 use Rattle.rules.specs.Tests.{pick, any, anyBelow, keep, upTo}
 use Rattle.rules.specs.Book.{leading}
@@ -116,7 +116,33 @@ any-up p n = (there, λ h. any-in p (upTo n) (h .0) (up-in n (h .0) (h .1) (h .2
         let h = up-out n (z .0) (z .1) in
         (z .0, h .0, h .1, z .2)
 
+-- one number more
+pub any-next : (p : ℕ → Bool) (n : ℕ) → any p (upTo (suc n)) ≡ any p (upTo n) || p (suc n)
+any-next p n = any-append p (upTo n) (suc n ∷ []) ∙ ap (λ (b : Bool). any p (upTo n) || b) (or-false (p (suc n)))
+
+pub map-next : {A : Type 0} (f : ℕ → A) (n : ℕ) → map f (upTo (suc n)) ≡ map f (upTo n) ++ (f (suc n) ∷ [])
+map-next f n = map-append f (upTo n) (suc n ∷ [])
+
+onwards-at : {A : Type 0} (f : ℕ → A) (d : A) (k n i : ℕ) → i < n → getD (map f (onwards k n)) i d ≡ f (suc (k + i))
+onwards-at f d k zero i h = absurd (not-suc-le-zero h)
+onwards-at f d k (suc n) zero h = rw add-zero
+onwards-at f d k (suc n) (suc i) h = onwards-at f d (suc k) n i (omega arith) ∙ ap (λ (x : ℕ). f (suc x)) (suc-add k i ∙ sym (add-suc k i))
+
+pub map-at : {A : Type 0} (f : ℕ → A) (d : A) (n i : ℕ) → i < n → getD (map f (upTo n)) i d ≡ f (suc i)
+map-at f d n i h = rw up-onwards (onwards-at f d 0 n i h ∙ ap (λ (x : ℕ). f (suc x)) (zero-add i))
+
 -- ---- keep
+
+pub keep-append : (p : ℕ → Bool) (l m : List ℕ) → keep p (l ++ m) ≡ keep p l ++ keep p m
+keep-append p [] m = refl
+keep-append p (x ∷ l) m = go (p x) (keep-append p l m)
+  where
+    go : (b : Bool) → keep p (l ++ m) ≡ keep p l ++ keep p m → pick b (x ∷ keep p (l ++ m)) (keep p (l ++ m)) ≡ pick b (x ∷ keep p l) (keep p l) ++ keep p m
+    go true e = ap (λ (k : List ℕ). x ∷ k) e
+    go false e = e
+
+pub keep-next : (p : ℕ → Bool) (n : ℕ) → keep p (upTo (suc n)) ≡ keep p (upTo n) ++ pick (p (suc n)) (suc n ∷ []) []
+keep-next p n = keep-append p (upTo n) (suc n ∷ [])
 
 pub keep-in : (p : ℕ → Bool) (l : List ℕ) (x : ℕ) → List·Memᴰ x l → T (p x) → List·Memᴰ x (keep p l)
 keep-in p [] x m t = m
@@ -241,3 +267,10 @@ module _ (p : ℕ → Bool) where
           let l = b (omega arith) in
           absurd (w .1 (omega (arith, leading-le n)) (f (suc n) (omega arith) (omega arith)))
       go a b (inr w) (no e) = let l = a (omega arith) in omega (arith, w .0)
+
+  pub leading-is : (n m : ℕ) → m ≤ n → ((r : ℕ) → 1 ≤ r → r ≤ m → T (p r)) → (m < n → ¬ (T (p (suc m)))) → leading p n ≡ m
+  leading-is n m h f g = go (ℕ-discrete (leading p n) m) (leading-most n m h f) (leading-le n)
+    where
+      go : Dec (leading p n ≡ m) → m ≤ leading p n → leading p n ≤ n → leading p n ≡ m
+      go (yes e) a b = e
+      go (no e) a b = absurd (g (omega arith) (leading-pass n (suc m) (omega arith) (omega arith)))

@@ -1,15 +1,14 @@
 -- A row's outcome is none, one tube or a split exactly where no tube, one or two different tubes are chosen.
 use mathlib.Core.Path.{_≡_, refl, sym, ap, _∙_}
-use mathlib.Core.Bool.{Bool, true, false, _&&_}
-use mathlib.Core.Logic.{_⊎_, inl, inr, _↔_, Iff·trans}
+use mathlib.Core.Logic.{_↔_}
 use mathlib.Core.List.{List, [], _∷_, List·Memᴰ, List·Memᴰ·head, List·Memᴰ·tail, List·Memᴰ·not-nil, List·Memᴰ·eq-of-singleton}
-use Prim.Native.Nat.{ℕ, zero, suc, _+_, _≤_, _<_}
+use Prim.Native.Nat.{ℕ, _≤_, _<_}
 use native.Mathlib.Omega.{arith}
 use lib.Dec.{T, leb, ltb, leb→le, le→leb, ltb→lt}
 use Rattle.rules.specs.Tests.{anyBelow, keep, upTo}
-use Rattle.rules.specs.Words.{tubeIn, Room, State}
+use Rattle.rules.specs.Words.{Room, State}
 use Rattle.rules.specs.Steps.{chosen}
-use Rattle.rules.specs.Book.{chosenIn, Outcome, unchosen, agreed, split, among, outcome}
+use Rattle.rules.specs.Book.{chosenIn, unchosen, agreed, split, among, outcome}
 use Rattle.rules.specs.Laws.{InSomeBallot, Chosen, NoneChosen, OneChosen, TwoChosen, climbs}
 use Rattle.rules.proofs.Sound.{and-l, and-r, below-sound}
 use Rattle.rules.proofs.Lists.{both, below-in, up-in, up-out, keep-in, keep-out, climbs-up, climbs-keep}

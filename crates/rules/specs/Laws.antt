@@ -1,7 +1,7 @@
 -- What the book promises: a row's outcome, one clerk, one line for each scanned tube, and a book that only grows.
 use mathlib.Core.Path.{_≡_}
-use mathlib.Core.Logic.{_↔_}
-use mathlib.Core.Bool.{Bool, true, false, not, _&&_}
+use mathlib.Core.Logic.{_↔_, _⊎_}
+use mathlib.Core.Bool.{Bool, true, not, _&&_}
 use mathlib.Core.List.{List, [], _∷_, _++_, List·Memᴰ}
 use Prim.Native.Nat.{ℕ, suc, _+_, _-_, _≤_, _<_}
 use lib.Dec.{T, eqb, ltb}
@@ -62,6 +62,23 @@ OneLine = (ρ : Room) (s : State) (t : ℕ) → 1 ≤ t → t ≤ length (s .int
 -- no tube has two rows of the book
 abbrev pub OneRow : Type 0
 OneRow = (ρ : Room) (s : State) (t q r : ℕ) → 1 ≤ t → 1 ≤ q → 1 ≤ r → entry ρ s q ≡ t → entry ρ s r ≡ t → q ≡ r
+
+-- the tube t has one row of the book, and does not wait
+pub record InBook (ρ : Room) (s : State) (t : ℕ) : Type 0 where
+  pub row : ℕ
+  pub low : 1 ≤ row
+  pub high : row ≤ reach ρ s
+  pub enters : entry ρ s row ≡ t
+  pub only : (q : ℕ) → 1 ≤ q → q ≤ reach ρ s → entry ρ s q ≡ t → q ≡ row
+  pub done : ¬ (List·Memᴰ t (waitingOf ρ s))
+
+-- the tube t waits once, and has no row of the book
+pub record Waits (ρ : Room) (s : State) (t : ℕ) : Type 0 where
+  pub once : occurs t (waitingOf ρ s) ≡ 1
+  pub nowhere : (q : ℕ) → 1 ≤ q → q ≤ reach ρ s → ¬ (entry ρ s q ≡ t)
+
+abbrev pub BookOrWaiting : Type 0
+BookOrWaiting = (ρ : Room) (s : State) (t : ℕ) → 1 ≤ t → t ≤ length (s .intake) → InBook ρ s t ⊎ Waits ρ s t
 
 -- where a room's tables pass opening and the board's tubes are on intake, the chosen tubes are
 abbrev pub ChosenScanned : Type 0
