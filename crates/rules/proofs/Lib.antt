@@ -4,3 +4,8 @@ pub mod Sound
 pub mod Area
 pub mod Codec
 pub mod Cases
+pub mod Lists
+pub mod Outcome
+pub mod Book
+pub mod OneLine
+pub mod Totals
