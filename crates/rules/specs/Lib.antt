@@ -5,3 +5,4 @@ pub mod Steps
 pub mod Book
 pub mod Replies
 pub mod Cases
+pub mod Promises

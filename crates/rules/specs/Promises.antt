@@ -1,0 +1,82 @@
+-- What the rules promise, each promise by its name: refusals, what is settled, forms, and spare bytes.
+use mathlib.Core.Path.{_≡_}
+use mathlib.Core.Bool.{Bool, true, false, not, _&&_, _||_}
+use mathlib.Core.Logic.{_↔_}
+use mathlib.Core.List.{List, [], _∷_, _++_}
+use Prim.Native.Nat.{ℕ, zero, suc, _+_, _-_, _*_, _≤_, _<_}
+use lib.Dec.{T, eqb, leb, ltb}
+use lib.ListN.{length, take, drop}
+use Rattle.rules.specs.Tests.{all, first}
+use Rattle.rules.specs.Words.{Room}
+use Rattle.rules.specs.Lent.{Memory, tables}
+use Rattle.rules.specs.Steps.{Call, book}
+use Rattle.rules.specs.Replies.{tests, reply, after, Answer, bare, answer, rowsAfter, waitingAfter, Did, roomCounts, roomLong, openReply, opening, Opened}
+
+-- ---- "A refusal gives its number alone, with zero as value, and changes nothing."
+
+pub record Refused (m : Memory) (c : Call) : Type 0 where
+  pub memory : after m c ≡ m
+  pub answer : answer m c ≡ bare (reply m c)
+
+abbrev pub RefusalKeeps : Type 0
+RefusalKeeps = (m : Memory) (c : Call) → ¬ (reply m c ≡ 0) → Refused m c
+
+-- the areas lent to a refused book call
+pub record Unwritten (m : Memory) (p q : List ℕ) : Type 0 where
+  pub rows : rowsAfter m p q ≡ p
+  pub waiting : waitingAfter m p q ≡ q
+
+abbrev pub BookKeeps : Type 0
+BookKeeps = (m : Memory) (p q : List ℕ) → ¬ (reply m (book p q) ≡ 0) → Unwritten m p q
+
+abbrev pub OpeningKeeps : Type 0
+OpeningKeeps = (ρ : Room) (m : Memory) → ¬ (openReply ρ m ≡ 0) → opening ρ m ≡ m
+
+-- ---- Each number is replied exactly when its test fails and every test before it holds.
+
+-- every test of a list holds
+abbrev pub Held : List (Bool × ℕ) → Type 0
+Held l = T (all (λ (x : Bool × ℕ). x .0) l)
+
+-- a test with the number k fails, and every test before it holds
+pub record Fails (l : List (Bool × ℕ)) (k : ℕ) : Type 0 where
+  pub before : List (Bool × ℕ)
+  pub behind : List (Bool × ℕ)
+  pub parts : l ≡ before ++ ((false, k) ∷ behind)
+  pub held : Held before
+
+-- no test has the number 0
+abbrev pub Numbered : List (Bool × ℕ) → Type 0
+Numbered l = T (all (λ (x : Bool × ℕ). ltb 0 (x .1)) l)
+
+-- for any list of tests
+abbrev pub FirstFails : Type 0
+FirstFails = (l : List (Bool × ℕ)) (k : ℕ) → 0 < k → (first l ≡ k) ↔ Fails l k
+
+abbrev pub NoneFails : Type 0
+NoneFails = (l : List (Bool × ℕ)) → Numbered l → (first l ≡ 0) ↔ Held l
+
+-- for the tests of a call, in the order that the document gives
+abbrev pub CallRefused : Type 0
+CallRefused = (m : Memory) (c : Call) (k : ℕ) → 0 < k → (reply m c ≡ k) ↔ Fails (tests m c) k
+
+abbrev pub CallDone : Type 0
+CallDone = (m : Memory) (c : Call) → (reply m c ≡ 0) ↔ Held (tests m c)
+
+-- "Opening tests 1, 5, 2, 3, 4."
+abbrev pub openTests : Room → Memory → List (Bool × ℕ)
+openTests ρ m = (roomCounts ρ, 1) ∷ (roomLong ρ m, 5) ∷ tables ρ
+
+abbrev pub OpeningRefused : Type 0
+OpeningRefused = (ρ : Room) (m : Memory) (k : ℕ) → 0 < k → (openReply ρ m ≡ k) ↔ Fails (openTests ρ m) k
+
+abbrev pub OpeningDone : Type 0
+OpeningDone = (ρ : Room) (m : Memory) → (openReply ρ m ≡ 0) ↔ Held (openTests ρ m)
+
+-- ---- "Any two outcomes allowed by a contract are equal."
+
+abbrev pub CallSettled : Type 0
+CallSettled = (m : Memory) (c : Call) (a a′ : Answer) (m₁ m₂ : Memory) → Did m c a m₁ → Did m c a′ m₂ → (a ≡ a′) × (m₁ ≡ m₂)
+
+abbrev pub OpeningSettled : Type 0
+OpeningSettled = (ρ : Room) (m : Memory) (a a′ : Answer) (m₁ m₂ : Memory) → Opened ρ m a m₁ → Opened ρ m a′ m₂ → (a ≡ a′) × (m₁ ≡ m₂)
