@@ -6,9 +6,11 @@ use mathlib.Core.List.{List, [], _∷_, _++_}
 use Prim.Native.Nat.{ℕ, zero, suc, _+_, _-_, _*_, _≤_, _<_}
 use lib.Dec.{T, eqb, leb, ltb}
 use lib.ListN.{length, take, drop}
-use Rattle.rules.specs.Tests.{all, first}
-use Rattle.rules.specs.Words.{Room}
-use Rattle.rules.specs.Lent.{Memory, tables}
+use Rattle.rules.specs.Tests.{all, fit, first}
+use Rattle.rules.specs.Words.{Msg, Cell, Room}
+use Rattle.rules.specs.declared.Message.{Message}
+use Rattle.rules.specs.declared.Cell as stored-cell
+use Rattle.rules.specs.Lent.{Memory, window, patch, bytesOf, msgAt, meaning, stored, encode, cellAt, meaningCell, storedCell, heardAt, setBit, tables, limits, plainMsg, plainCell, goodCell}
 use Rattle.rules.specs.Steps.{Call, book}
 use Rattle.rules.specs.Replies.{tests, reply, after, Answer, bare, answer, rowsAfter, waitingAfter, Did, roomCounts, roomLong, openReply, opening, Opened}
 
@@ -80,3 +82,63 @@ CallSettled = (m : Memory) (c : Call) (a a′ : Answer) (m₁ m₂ : Memory) →
 
 abbrev pub OpeningSettled : Type 0
 OpeningSettled = (ρ : Room) (m : Memory) (a a′ : Answer) (m₁ m₂ : Memory) → Opened ρ m a m₁ → Opened ρ m a′ m₂ → (a ≡ a′) × (m₁ ≡ m₂)
+
+-- ---- What is written reads back, and the rest stays.
+
+pub record MsgWritten (s : List ℕ) (k : ℕ) (x : Msg) : Type 0 where
+  pub own : meaning (msgAt (patch s (40 * k) (bytesOf (stored x))) k) ≡ x
+  pub others : (j : ℕ) → ¬ (j ≡ k) → msgAt (patch s (40 * k) (bytesOf (stored x))) j ≡ msgAt s j
+
+abbrev pub MsgReadsBack : Type 0
+MsgReadsBack = (ρ : Room) (s : List ℕ) (k : ℕ) (x : Msg) → T (limits ρ x) → 40 * k + 40 ≤ length s → MsgWritten s k x
+
+pub record CellWritten (s : List ℕ) (k : ℕ) (c : Cell) : Type 0 where
+  pub own : meaningCell (cellAt (patch s (36 * k) (encode (storedCell c))) k) ≡ c
+  pub others : (j : ℕ) → ¬ (j ≡ k) → cellAt (patch s (36 * k) (encode (storedCell c))) j ≡ cellAt s j
+
+abbrev pub CellReadsBack : Type 0
+CellReadsBack = (tubes : ℕ) (s : List ℕ) (k : ℕ) (c : Cell) → T (goodCell tubes c) → 36 * k + 36 ≤ length s → CellWritten s k c
+
+-- node n hears message k: that bit stands, and every other is as it was
+abbrev pub BitReadsBack : Type 0
+BitReadsBack = (ρ : Room) (s : List ℕ) → 128 * ρ .nodes ≤ length s → (n k a j : ℕ) → n < ρ .nodes → k < 1024 → a < ρ .nodes → j < 1024
+    → heardAt (setBit s n k) a j ≡ (eqb a n && eqb j k) || heardAt s a j
+
+-- ---- What is in form writes back.
+
+pub record MsgKept (s : List ℕ) (k : ℕ) : Type 0 where
+  pub bytes : bytesOf (stored (meaning (msgAt s k))) ≡ window 40 k s
+  pub area : patch s (40 * k) (bytesOf (stored (meaning (msgAt s k)))) ≡ s
+
+abbrev pub MsgWritesBack : Type 0
+MsgWritesBack = (s : List ℕ) (k : ℕ) → T (plainMsg s k) → MsgKept s k
+
+pub record CellKept (s : List ℕ) (k : ℕ) : Type 0 where
+  pub bytes : encode (storedCell (meaningCell (cellAt s k))) ≡ window 36 k s
+  pub area : patch s (36 * k) (encode (storedCell (meaningCell (cellAt s k)))) ≡ s
+
+abbrev pub CellWritesBack : Type 0
+CellWritesBack = (s : List ℕ) (k : ℕ) → T (plainCell s k) → CellKept s k
+
+-- ---- The form of a message and of a cell, field by field.
+
+-- unused pairs are 0: the bytes from pair n on
+abbrev pub Unused : ℕ → List ℕ → Type 0
+Unused n s = drop (2 * n) s ≡ fit (32 - 2 * n) []
+
+-- "Fields a kind lacks and unused pairs are 0. 1a has row and ballot; 1c adds tube; 2av and 2b have row, ballot, node,
+-- tube; 1b has all but tube."
+pub record Plain (x : Message) : Type 0 where
+  pub kind : T (leb 1 (x .kind) && leb (x .kind) 5)
+  pub node : T (eqb (x .kind) 1 || eqb (x .kind) 3) → x .node ≡ 0
+  pub tube : T (eqb (x .kind) 1 || eqb (x .kind) 2) → x .tube ≡ 0
+  pub mbal : T (not (eqb (x .kind) 2)) → x .mbal ≡ 0
+  pub mval : T (not (eqb (x .kind) 2)) → x .mval ≡ 0
+  pub count : T (not (eqb (x .kind) 2)) → x .count ≡ 0
+  pub pairs : Unused (x .count) (x .pairs)
+
+abbrev pub MsgForm : Type 0
+MsgForm = (s : List ℕ) (k : ℕ) → T (plainMsg s k) ↔ ((40 * k + 40 ≤ length s) × Plain (msgAt s k))
+
+abbrev pub CellForm : Type 0
+CellForm = (s : List ℕ) (k : ℕ) → T (plainCell s k) ↔ ((36 * k + 36 ≤ length s) × Unused (cellAt s k .count) (cellAt s k .pairs))
