@@ -1,20 +1,20 @@
 -- What is written reads back, what is in form writes back, and what the form says of each field.
 use mathlib.Core.Path.{_≡_, refl, sym, ap, subst, _∙_}
-use mathlib.Core.Bool.{Bool, true, false, not, _&&_, _||_}
-use mathlib.Core.Logic.{_⊎_, inl, inr, ⊎-elim}
-use mathlib.Core.List.{List, [], _∷_, _++_}
+use mathlib.Core.Bool.{Bool, true, false, _&&_}
+use mathlib.Core.Logic.{⊎-elim}
+use mathlib.Core.List.{List, [], _∷_}
 use Prim.Native.Nat.{ℕ, zero, suc, _+_, _-_, _*_, _≤_, _<_}
 use native.Mathlib.Nat.{mul-suc, mul-le-mul-left, sub-zero, zero-sub, suc-sub-suc}
 use native.Mathlib.Omega.{arith}
 use borrow.Author.Tests.{lt-ltb, eqb-true}
-use lib.Dec.{T, eqb, leb, ltb, eqb→eq, eqb-refl, leb→le}
-use lib.ListN.{length, getD, take, drop, length-take, length-drop, take-append-drop}
+use lib.Dec.{T, eqb, leb, eqb→eq, eqb-refl, leb→le}
+use lib.ListN.{length, take, drop, length-take, length-drop, take-append-drop}
 use lib.Seq.{take-all, drop-cons}
-use Rattle.rules.specs.Tests.{pick, all, eqs, fit}
-use Rattle.rules.specs.Words.{heightOf, heightByte, Pair, Msg, m1a, m1b, m1c, m2av, m2b, Cell, Room, balIn, tubeIn}
+use Rattle.rules.specs.Tests.{pick, eqs, fit}
+use Rattle.rules.specs.Words.{heightOf, heightByte, Pair, Msg, m1a, m1b, m1c, m2av, m2b, Cell, Room}
 use Rattle.rules.specs.declared.Message.{Message}
 use Rattle.rules.specs.declared.Cell as stored-cell
-use Rattle.rules.specs.Lent.{window, patch, pairsOf, flatten, msgOf, bytesOf, msgAt, meaning, stored, line, cellOf, encode, cellAt, meaningCell, storedCell, heardAt, setBit, heardOf, rowIn, limits, pairsIn, plainMsg, plainCell, goodCell}
+use Rattle.rules.specs.Lent.{window, patch, pairsOf, flatten, msgOf, bytesOf, msgAt, meaning, stored, line, cellOf, encode, cellAt, meaningCell, storedCell, limits, plainMsg, plainCell, goodCell}
 use Rattle.rules.specs.Promises.{MsgReadsBack, CellReadsBack, BitReadsBack, MsgWritesBack, CellWritesBack, Unused, Plain, MsgForm, CellForm}
 use Rattle.rules.proofs.Sound.{and-l, and-r}
 use Rattle.rules.proofs.Area.{patch-below, patch-above, cell-put}

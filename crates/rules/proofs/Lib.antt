@@ -6,3 +6,4 @@ pub mod Codec
 pub mod Cases
 pub mod Refusals
 pub mod Forms
+pub mod Spare

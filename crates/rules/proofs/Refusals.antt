@@ -1,17 +1,17 @@
 -- A reply is the number of the first test that fails; a refusal changes nothing; a contract allows one outcome.
 use mathlib.Core.Path.{_≡_, refl, sym, ap, _∙_}
-use mathlib.Core.Bool.{Bool, true, false, not, _&&_, _||_}
+use mathlib.Core.Bool.{Bool, true, false, _&&_}
 use mathlib.Core.List.{List, [], _∷_, _++_, append-nil}
-use Prim.Native.Nat.{ℕ, zero, suc, _<_}
+use Prim.Native.Nat.{ℕ, _<_}
 use native.Mathlib.Omega.{arith}
 use borrow.Author.Tests.{ne-eqb}
-use lib.Dec.{T, eqb, ltb}
+use lib.Dec.{T, eqb}
 use Rattle.rules.specs.Tests.{pick, all, first}
 use Rattle.rules.specs.Lent.{Memory}
-use Rattle.rules.specs.Steps.{Call, scan, c1a, c1b, c1c, c2av, c2b, hear, foreign, ask, book, Effect, stays, effect, write}
-use Rattle.rules.specs.Replies.{tests, reply, change, after, Answer, answer, rowsAfter, waitingAfter, Did, openReply, opening, Opened}
+use Rattle.rules.specs.Steps.{Call, scan, c1a, c1b, c1c, c2av, c2b, hear, foreign, ask, book, write}
+use Rattle.rules.specs.Replies.{tests, reply, change, after, answer, rowsAfter, waitingAfter, openReply, opening}
 use Rattle.rules.specs.Promises.{RefusalKeeps, BookKeeps, OpeningKeeps, Held, Fails, Numbered, FirstFails, NoneFails, CallRefused, CallDone, openTests, OpeningRefused, OpeningDone, CallSettled, OpeningSettled}
-use Rattle.rules.proofs.Sound.{and-l, and-r, clear, Clear}
+use Rattle.rules.proofs.Sound.{clear, Clear}
 
 -- ---- a refusal changes nothing
 
@@ -76,7 +76,7 @@ unfolding reply
 call-refused m c k p = first-fails (tests m c) k p
 
 -- every test of a call has a number
-numbered : (m : Memory) (c : Call) → Numbered (tests m c)
+pub numbered : (m : Memory) (c : Call) → Numbered (tests m c)
 numbered m (scan a b) = tt
 numbered m (c1a r b) = tt
 numbered m (c1b r n b) = tt

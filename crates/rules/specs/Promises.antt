@@ -1,18 +1,18 @@
 -- What the rules promise, each promise by its name: refusals, what is settled, forms, and spare bytes.
 use mathlib.Core.Path.{_≡_}
-use mathlib.Core.Bool.{Bool, true, false, not, _&&_, _||_}
+use mathlib.Core.Bool.{Bool, false, not, _&&_, _||_}
 use mathlib.Core.Logic.{_↔_}
 use mathlib.Core.List.{List, [], _∷_, _++_}
-use Prim.Native.Nat.{ℕ, zero, suc, _+_, _-_, _*_, _≤_, _<_}
+use Prim.Native.Nat.{ℕ, zero, _+_, _-_, _*_, _≤_, _<_}
 use lib.Dec.{T, eqb, leb, ltb}
 use lib.ListN.{length, take, drop}
 use Rattle.rules.specs.Tests.{all, fit, first}
 use Rattle.rules.specs.Words.{Msg, Cell, Room}
 use Rattle.rules.specs.declared.Message.{Message}
 use Rattle.rules.specs.declared.Cell as stored-cell
-use Rattle.rules.specs.Lent.{Memory, window, patch, bytesOf, msgAt, meaning, stored, encode, cellAt, meaningCell, storedCell, heardAt, setBit, tables, limits, plainMsg, plainCell, goodCell}
+use Rattle.rules.specs.Lent.{Memory, window, patch, bytesOf, msgAt, meaning, stored, encode, cellAt, meaningCell, storedCell, heardAt, setBit, roomOf, tables, limits, plainMsg, plainCell, goodCell, used}
 use Rattle.rules.specs.Steps.{Call, book}
-use Rattle.rules.specs.Replies.{tests, reply, after, Answer, bare, answer, rowsAfter, waitingAfter, Did, roomCounts, roomLong, openReply, opening, Opened}
+use Rattle.rules.specs.Replies.{tests, reply, change, after, Answer, bare, answer, rowsAfter, waitingAfter, Did, roomCounts, roomLong, openReply, opening, Opened}
 
 -- ---- "A refusal gives its number alone, with zero as value, and changes nothing."
 
@@ -142,3 +142,43 @@ MsgForm = (s : List ℕ) (k : ℕ) → T (plainMsg s k) ↔ ((40 * k + 40 ≤ le
 
 abbrev pub CellForm : Type 0
 CellForm = (s : List ℕ) (k : ℕ) → T (plainCell s k) ↔ ((36 * k + 36 ≤ length s) × Unused (cellAt s k .count) (cellAt s k .pairs))
+
+-- ---- "Spare bytes .. are not looked at and change only where a message is appended."
+
+-- a call does the same to two memories
+pub record Alike (m m′ : Memory) (c : Call) : Type 0 where
+  pub answer : answer m c ≡ answer m′ c
+  pub change : change m c ≡ change m′ c
+  pub used : used (after m c) ≡ used (after m′ c)
+
+-- where two memories differ in spare bytes alone
+abbrev pub SpareUnread : Type 0
+SpareUnread = (m m′ : Memory) (c : Call) → used m ≡ used m′ → Alike m m′ c
+
+-- a book call writes the same
+abbrev pub SpareUnbooked : Type 0
+SpareUnbooked = (m m′ : Memory) (p q : List ℕ) → used m ≡ used m′ → (rowsAfter m p q ≡ rowsAfter m′ p q) × (waitingAfter m p q ≡ waitingAfter m′ p q)
+
+-- opening does the same
+abbrev pub SpareUnopened : Type 0
+SpareUnopened = (ρ : Room) (m m′ : Memory) → used m ≡ used m′ → (openReply ρ m ≡ openReply ρ m′) × (used (opening ρ m) ≡ used (opening ρ m′))
+
+-- what stays of m where m′ is left: the lengths, the messages, and the bytes that are spare in m′
+pub record Spared (m m′ : Memory) : Type 0 where
+  pub boardLength : length (m′ .board) ≡ length (m .board)
+  pub cellsLength : length (m′ .cells) ≡ length (m .cells)
+  pub heardLength : length (m′ .heard) ≡ length (m .heard)
+  pub messages : take (40 * m .house .count) (m′ .board) ≡ take (40 * m .house .count) (m .board)
+  pub board : drop (40 * m′ .house .count) (m′ .board) ≡ drop (40 * m′ .house .count) (m .board)
+  pub cells : drop (36 * (m′ .house .nodes * m′ .house .rows)) (m′ .cells) ≡ drop (36 * (m′ .house .nodes * m′ .house .rows)) (m .cells)
+  pub heard : drop (128 * m′ .house .nodes) (m′ .heard) ≡ drop (128 * m′ .house .nodes) (m .heard)
+
+abbrev pub SpareStays : Type 0
+SpareStays = (m : Memory) (c : Call) → Spared m (after m c)
+
+abbrev pub SpareStaysOpening : Type 0
+SpareStaysOpening = (ρ : Room) (m : Memory) → Spared m (opening ρ m)
+
+-- counts and tables of the room stay as opening set them
+abbrev pub RoomStays : Type 0
+RoomStays = (m : Memory) (c : Call) → roomOf (after m c .house) ≡ roomOf (m .house)
