@@ -1,24 +1,24 @@
 -- What is written reads back, what is in form writes back, and what the form says of each field.
 use mathlib.Core.Path.{_≡_, refl, sym, ap, subst, _∙_}
-use mathlib.Core.Bool.{Bool, true, false, _&&_}
+use mathlib.Core.Bool.{Bool, true, false, not, _&&_, _||_}
 use mathlib.Core.Logic.{⊎-elim}
 use mathlib.Core.List.{List, [], _∷_}
 use Prim.Native.Nat.{ℕ, zero, suc, _+_, _-_, _*_, _≤_, _<_}
 use native.Mathlib.Nat.{mul-suc, mul-le-mul-left, sub-zero, zero-sub, suc-sub-suc}
 use native.Mathlib.Omega.{arith}
 use borrow.Author.Tests.{lt-ltb, eqb-true}
-use lib.Dec.{T, eqb, leb, eqb→eq, eqb-refl, leb→le}
+use lib.Dec.{T, eqb, leb, eqb→eq, eqb-refl, leb→le, leb·suc-suc, ltb, T-not}
 use lib.ListN.{length, take, drop, length-take, length-drop, take-append-drop}
 use lib.Seq.{take-all, drop-cons}
 use Rattle.rules.specs.Tests.{pick, eqs, fit}
-use Rattle.rules.specs.Words.{heightOf, heightByte, Pair, Msg, m1a, m1b, m1c, m2av, m2b, Cell, Room}
+use Rattle.rules.specs.Words.{heightOf, heightByte, Pair, Msg, m1a, m1b, m1c, m2av, m2b, Cell, Room, balIn, tubeIn}
 use Rattle.rules.specs.declared.Message.{Message}
 use Rattle.rules.specs.declared.Cell as stored-cell
-use Rattle.rules.specs.Lent.{window, patch, pairsOf, flatten, msgOf, bytesOf, msgAt, meaning, stored, line, cellOf, encode, cellAt, meaningCell, storedCell, limits, plainMsg, plainCell, goodCell}
-use Rattle.rules.specs.Promises.{MsgReadsBack, CellReadsBack, BitReadsBack, MsgWritesBack, CellWritesBack, Unused, Plain, MsgForm, CellForm}
+use Rattle.rules.specs.Lent.{window, patch, pairsOf, flatten, msgOf, bytesOf, msgAt, meaning, stored, line, cellOf, encode, cellAt, meaningCell, storedCell, rowIn, limits, pairsIn, plainMsg, plainCell, goodCell}
+use Rattle.rules.specs.Promises.{MsgReadsBack, CellReadsBack, BitReadsBack, MsgWritesBack, CellWritesBack, Unused, Plain, MsgForm, Within, MsgLimits, CellForm}
 use Rattle.rules.proofs.Sound.{and-l, and-r}
 use Rattle.rules.proofs.Area.{patch-below, patch-above, cell-put}
-use Rattle.rules.proofs.Codec.{Small, length-fit, msg-back, msg-long, cell-back, msg-put, order, heard-set}
+use Rattle.rules.proofs.Codec.{Small, length-fit, msg-back, msg-long, cell-back, msg-put, or-no, order, heard-set}
 
 -- ---- lists that the test finds equal
 
@@ -171,6 +171,10 @@ height-back b = go (eqb b 255) refl
 abbrev kinded : ℕ → Message → Message
 kinded k x = record { kind = k; row = x .row; bal = x .bal; node = x .node; tube = x .tube; mbal = x .mbal; mval = x .mval; count = x .count; pairs = x .pairs }
 
+-- no kind is above 5
+past-five : (k : ℕ) → T (leb 1 (suc (suc (suc (suc (suc (suc k)))))) && leb (suc (suc (suc (suc (suc (suc k)))))) 5) → ⊥
+past-five k h = let n = suc (suc (suc (suc (suc (suc k))))) in omega (arith, leb→le n 5 (and-r (leb 1 n) (leb n 5) h))
+
 stored-plain : (x : Msg) → Plain (stored x)
 unfolding stored
 stored-plain (m1a r b) = record { kind = tt; node = λ t. refl; tube = λ t. refl; mbal = λ t. refl; mval = λ t. refl; count = λ t. refl; pairs = refl }
@@ -203,9 +207,7 @@ plain-stored (suc (suc zero)) x l p = λ i. record {
 plain-stored (suc (suc (suc zero))) x l p = no-1b 3 0 (x .tube) x (p .node tt) refl (p .mbal tt) (p .mval tt) (p .count tt) (p .pairs)
 plain-stored (suc (suc (suc (suc zero)))) x l p = no-1b 4 (x .node) (x .tube) x refl refl (p .mbal tt) (p .mval tt) (p .count tt) (p .pairs)
 plain-stored (suc (suc (suc (suc (suc zero))))) x l p = no-1b 5 (x .node) (x .tube) x refl refl (p .mbal tt) (p .mval tt) (p .count tt) (p .pairs)
-plain-stored (suc (suc (suc (suc (suc (suc k)))))) x l p =
-    let n = suc (suc (suc (suc (suc (suc k))))) in
-    absurd (omega (arith, leb→le n 5 (and-r (leb 1 n) (leb n 5) (p .kind))))
+plain-stored (suc (suc (suc (suc (suc (suc k)))))) x l p = absurd (past-five k (p .kind))
 
 bytes-back : (w : List ℕ) → length w ≡ 40 → bytesOf (msgOf w) ≡ w
 bytes-back w l =
@@ -263,3 +265,87 @@ cell-form s k = (λ t. (inside t, subst (λ (c : stored-cell.Cell). Unused (c .c
         subst (λ (w : List ℕ). T (eqs (window 36 k s) w))
         (sym (ap encode (own c l u) ∙ cell-whole (window 36 k s) (length-window 36 k s h)))
         (eqs-same (window 36 k s))
+
+-- ---- the limits of a message
+
+and-two : (a b : Bool) → T a → T b → T (a && b)
+and-two true b s t = t
+and-two false b s t = absurd s
+
+or-true : (b : Bool) → b || true ≡ true
+or-true true = refl
+or-true false = refl
+
+-- a height is that of a ballot or of none
+height-in : (b : ℕ) → leb (heightOf b) 16 ≡ balIn b || eqb b 255
+height-in b = go (eqb b 255)
+  where
+    go : (x : Bool) → leb (pick x 0 (suc b)) 16 ≡ leb b 15 || x
+    go true = sym (or-true (leb b 15))
+    go false = leb·suc-suc b 15 ∙ sym (or-no (leb b 15))
+
+-- every kind but the 1b
+no-1b-within : (k : ℕ) (ρ : Room) (x : Message) → T (not (eqb k 2)) → T (rowIn ρ (x .row) && balIn (x .bal))
+    → (T (not (eqb k 1 || eqb k 3)) → T (ltb (x .node) (ρ .nodes))) → (T (not (eqb k 1 || eqb k 2)) → T (tubeIn (x .tube))) → Within ρ (kinded k x)
+no-1b-within k ρ x h t n v = record {
+  row = and-l (rowIn ρ (x .row)) (balIn (x .bal)) t;
+  bal = and-r (rowIn ρ (x .row)) (balIn (x .bal)) t;
+  node = n;
+  tube = v;
+  mbal = λ u. absurd (T-not (eqb k 2) h u);
+  mval = λ u. absurd (T-not (eqb k 2) h u);
+  count = λ u. absurd (T-not (eqb k 2) h u);
+  pairs = λ u. absurd (T-not (eqb k 2) h u);
+}
+
+within : (k : ℕ) (ρ : Room) (x : Message) → T (leb 1 k && leb k 5) → T (limits ρ (meaning (kinded k x))) → Within ρ (kinded k x)
+unfolding limits meaning
+within zero ρ x h t = absurd h
+within (suc zero) ρ x h t = no-1b-within 1 ρ x tt t (λ u. absurd u) (λ u. absurd u)
+within (suc (suc zero)) ρ x h t =
+    let l = pairsOf (x .count) (x .pairs) in
+    let p : T (pairsIn l) = search (and-l, and-r) depth 7 in
+    let c : T (leb (length l) 16) = search (and-l, and-r) depth 7 in
+    let b : T (leb (heightOf (x .mbal)) 16) = search (and-l, and-r) depth 7 in
+    record {
+      row = search (and-l, and-r) depth 7;
+      bal = search (and-l, and-r) depth 7;
+      node = λ u. search (and-l, and-r) depth 7;
+      tube = λ u. absurd u;
+      mbal = λ u. rw (height-in (x .mbal)) at b;
+      mval = λ u. search (and-l, and-r) depth 7;
+      count = λ u. rw (length-pairs (x .count) (x .pairs)) at c;
+      pairs = λ u. p;
+    }
+within (suc (suc (suc zero))) ρ x h t = no-1b-within 3 ρ x tt (search (and-l, and-r) depth 7) (λ u. absurd u) (λ u. search (and-l, and-r) depth 7)
+within (suc (suc (suc (suc zero)))) ρ x h t = no-1b-within 4 ρ x tt (search (and-l, and-r) depth 7) (λ u. search (and-l, and-r) depth 7) (λ u. search (and-l, and-r) depth 7)
+within (suc (suc (suc (suc (suc zero))))) ρ x h t = no-1b-within 5 ρ x tt (search (and-l, and-r) depth 7) (λ u. search (and-l, and-r) depth 7) (λ u. search (and-l, and-r) depth 7)
+within (suc (suc (suc (suc (suc (suc k)))))) ρ x h t = absurd (past-five k h)
+
+-- a 2av and a 2b alike
+at-node : (ρ : Room) (x : Message) → T (rowIn ρ (x .row)) → T (balIn (x .bal)) → T (ltb (x .node) (ρ .nodes)) → T (tubeIn (x .tube))
+    → T ((rowIn ρ (x .row) && balIn (x .bal)) && (ltb (x .node) (ρ .nodes) && tubeIn (x .tube)))
+at-node ρ x p q r s =
+    and-two (rowIn ρ (x .row) && balIn (x .bal)) (ltb (x .node) (ρ .nodes) && tubeIn (x .tube))
+    (and-two (rowIn ρ (x .row)) (balIn (x .bal)) p q)
+    (and-two (ltb (x .node) (ρ .nodes)) (tubeIn (x .tube)) r s)
+
+limited : (k : ℕ) (ρ : Room) (x : Message) → T (leb 1 k && leb k 5) → Within ρ (kinded k x) → T (limits ρ (meaning (kinded k x)))
+unfolding limits meaning
+limited zero ρ x h w = absurd h
+limited (suc zero) ρ x h w = and-two (rowIn ρ (x .row)) (balIn (x .bal)) (w .row) (w .bal)
+limited (suc (suc zero)) ρ x h w =
+    let l = pairsOf (x .count) (x .pairs) in
+    and-two (rowIn ρ (x .row) && balIn (x .bal)) (ltb (x .node) (ρ .nodes) && (leb (heightOf (x .mbal)) 16 && (leb (x .mval) 64 && pairsIn l)))
+    (and-two (rowIn ρ (x .row)) (balIn (x .bal)) (w .row) (w .bal))
+    (and-two (ltb (x .node) (ρ .nodes)) (leb (heightOf (x .mbal)) 16 && (leb (x .mval) 64 && pairsIn l)) (w .node tt)
+    (and-two (leb (heightOf (x .mbal)) 16) (leb (x .mval) 64 && pairsIn l) (subst T (sym (height-in (x .mbal))) (w .mbal tt))
+    (and-two (leb (x .mval) 64) (pairsIn l) (w .mval tt) (w .pairs tt))))
+limited (suc (suc (suc zero))) ρ x h w =
+    and-two (rowIn ρ (x .row) && balIn (x .bal)) (tubeIn (x .tube)) (and-two (rowIn ρ (x .row)) (balIn (x .bal)) (w .row) (w .bal)) (w .tube tt)
+limited (suc (suc (suc (suc zero)))) ρ x h w = at-node ρ x (w .row) (w .bal) (w .node tt) (w .tube tt)
+limited (suc (suc (suc (suc (suc zero))))) ρ x h w = at-node ρ x (w .row) (w .bal) (w .node tt) (w .tube tt)
+limited (suc (suc (suc (suc (suc (suc k)))))) ρ x h w = absurd (past-five k h)
+
+pub msg-limits : MsgLimits
+msg-limits ρ x h = (within (x .kind) ρ x h, limited (x .kind) ρ x h)

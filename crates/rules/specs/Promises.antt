@@ -7,10 +7,10 @@ use Prim.Native.Nat.{ℕ, zero, _+_, _-_, _*_, _≤_, _<_}
 use lib.Dec.{T, eqb, leb, ltb}
 use lib.ListN.{length, take, drop}
 use Rattle.rules.specs.Tests.{all, fit, first}
-use Rattle.rules.specs.Words.{Msg, Cell, Room}
+use Rattle.rules.specs.Words.{balIn, tubeIn, Msg, Cell, Room}
 use Rattle.rules.specs.declared.Message.{Message}
 use Rattle.rules.specs.declared.Cell as stored-cell
-use Rattle.rules.specs.Lent.{Memory, window, patch, bytesOf, msgAt, meaning, stored, encode, cellAt, meaningCell, storedCell, heardAt, setBit, roomOf, tables, limits, plainMsg, plainCell, goodCell, used}
+use Rattle.rules.specs.Lent.{Memory, window, patch, pairsOf, bytesOf, msgAt, meaning, stored, encode, cellAt, meaningCell, storedCell, heardAt, setBit, roomOf, rowIn, tables, pairsIn, limits, plainMsg, plainCell, goodCell, used}
 use Rattle.rules.specs.Steps.{Call, book}
 use Rattle.rules.specs.Replies.{tests, reply, change, after, Answer, bare, answer, rowsAfter, waitingAfter, Did, roomCounts, roomLong, openReply, opening, Opened}
 
@@ -139,6 +139,21 @@ pub record Plain (x : Message) : Type 0 where
 
 abbrev pub MsgForm : Type 0
 MsgForm = (s : List ℕ) (k : ℕ) → T (plainMsg s k) ↔ ((40 * k + 40 ≤ length s) × Plain (msgAt s k))
+
+-- A message's fields in their limits, of one whose kind is known: each field that the kind has. mbal is a ballot or none (255),
+-- mval a tube or none (0); pairs are at most sixteen, each a tube and a ballot, and ascend.
+pub record Within (ρ : Room) (x : Message) : Type 0 where
+  pub row : T (rowIn ρ (x .row))
+  pub bal : T (balIn (x .bal))
+  pub node : T (not (eqb (x .kind) 1 || eqb (x .kind) 3)) → T (ltb (x .node) (ρ .nodes))
+  pub tube : T (not (eqb (x .kind) 1 || eqb (x .kind) 2)) → T (tubeIn (x .tube))
+  pub mbal : T (eqb (x .kind) 2) → T (balIn (x .mbal) || eqb (x .mbal) 255)
+  pub mval : T (eqb (x .kind) 2) → T (leb (x .mval) 64)
+  pub count : T (eqb (x .kind) 2) → T (leb (x .count) 16)
+  pub pairs : T (eqb (x .kind) 2) → T (pairsIn (pairsOf (x .count) (x .pairs)))
+
+abbrev pub MsgLimits : Type 0
+MsgLimits = (ρ : Room) (x : Message) → T (leb 1 (x .kind) && leb (x .kind) 5) → T (limits ρ (meaning x)) ↔ Within ρ x
 
 abbrev pub CellForm : Type 0
 CellForm = (s : List ℕ) (k : ℕ) → T (plainCell s k) ↔ ((36 * k + 36 ≤ length s) × Unused (cellAt s k .count) (cellAt s k .pairs))
