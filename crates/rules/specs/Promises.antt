@@ -9,7 +9,6 @@ use lib.ListN.{length, take, drop}
 use Rattle.rules.specs.Tests.{all, fit, first}
 use Rattle.rules.specs.Words.{balIn, tubeIn, Msg, Cell, Room}
 use Rattle.rules.specs.declared.Message.{Message}
-use Rattle.rules.specs.declared.Cell as stored-cell
 use Rattle.rules.specs.Lent.{Memory, window, patch, pairsOf, bytesOf, msgAt, meaning, stored, encode, cellAt, meaningCell, storedCell, heardAt, setBit, roomOf, rowIn, tables, pairsIn, limits, plainMsg, plainCell, goodCell, used}
 use Rattle.rules.specs.Steps.{Call, book}
 use Rattle.rules.specs.Replies.{tests, reply, change, after, Answer, bare, answer, rowsAfter, waitingAfter, Did, roomCounts, roomLong, openReply, opening, Opened}
@@ -75,7 +74,7 @@ OpeningRefused = (ρ : Room) (m : Memory) (k : ℕ) → 0 < k → (openReply ρ 
 abbrev pub OpeningDone : Type 0
 OpeningDone = (ρ : Room) (m : Memory) → (openReply ρ m ≡ 0) ↔ Held (openTests ρ m)
 
--- ---- "Any two outcomes allowed by a contract are equal."
+-- ---- Any two outcomes that a contract allows are equal.
 
 abbrev pub CallSettled : Type 0
 CallSettled = (m : Memory) (c : Call) (a a′ : Answer) (m₁ m₂ : Memory) → Did m c a m₁ → Did m c a′ m₂ → (a ≡ a′) × (m₁ ≡ m₂)
