@@ -9,3 +9,6 @@ pub mod Outcome
 pub mod Book
 pub mod OneLine
 pub mod Totals
+pub mod Refusals
+pub mod Forms
+pub mod Spare

@@ -6,3 +6,4 @@ pub mod Book
 pub mod Replies
 pub mod Cases
 pub mod Laws
+pub mod Promises
