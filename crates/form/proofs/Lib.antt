@@ -2,3 +2,5 @@ pub mod Each
 pub mod Sets
 pub mod Counted
 pub mod Plain
+pub mod Heard
+pub mod Differ

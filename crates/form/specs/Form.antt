@@ -1,12 +1,14 @@
 -- What the parts of the gate decide, over just what each part reads.
+use mathlib.Core.Path.{_≡_}
 use mathlib.Core.Bool.{Bool, true, false, not, _&&_, _||_}
 use mathlib.Core.List.{List}
-use Prim.Native.Nat.{ℕ, _*_, _^_}
+use Prim.Native.Nat.{ℕ, _*_, _%_, _^_, _<_}
+use lib.Bits.{bitAnd}
 use lib.Dec.{eqb, leb, ltb}
-use lib.ListN.{getD}
+use lib.ListN.{length, getD}
 use Rattle.rules.specs.Tests.{pick, all, allBelow, distinct, eqs, bit, count, first}
 use Rattle.rules.specs.Words.{balIn, tubeIn, heightOf, Room}
-use Rattle.rules.specs.Lent.{pairsOf, bytesOf, meaning, stored, meaningCell, tables, roomOf, intakeOf, sameScan, pairsIn, goodMsg, goodCell}
+use Rattle.rules.specs.Lent.{window, pairsOf, bytesOf, meaning, boardOf, heardAt, is1bAt, stored, meaningCell, tables, roomOf, intakeOf, sameScan, pairsIn, goodMsg, goodCell}
 use Rattle.rules.specs.Replies.{pairsPlain}
 use Rattle.rules.specs.declared.Message.{Message}
 use Rattle.rules.specs.declared.Cell as stored-cell
@@ -73,3 +75,24 @@ held nodes rows t m = ((leb 1 (m .row) && leb (m .row) rows) && balIn (m .bal))
     (pick (eqb (m .kind) 2) (ltb (m .node) nodes && (leb (heightOf (m .mbal)) 16 && (leb (m .mval) 64 && leb (m .mval) t)))
     (pick (eqb (m .kind) 3) (tubeIn (m .tube) && leb (m .tube) t)
     (ltb (m .node) nodes && (tubeIn (m .tube) && leb (m .tube) t))))
+
+-- ---- the board
+
+-- the message numbered k is none of those before it, by its bytes
+abbrev pub newMessage : List ℕ → ℕ → Bool
+newMessage s k = allBelow (λ j. not (eqs (window 40 j s) (window 40 k s))) k
+
+-- ---- heard bits
+
+-- the bit of a message in its byte if its first byte says 1b
+abbrev pub promiseBit : ℕ → ℕ → ℕ
+promiseBit kind k = pick (eqb kind 2) (2 ^ (k % 8)) 0
+
+-- one node's heard bytes r have just the bits of the 1b messages among the first n
+pub record Promises (s : List ℕ) (n : ℕ) (r : List ℕ) : Type 0 where
+  pub long : length r ≡ 128
+  pub bits : (k : ℕ) → k < 1024 → heardAt r 0 k ≡ is1bAt (boardOf s n) k
+
+-- byte t of the heard area has only bits of r, which is one node's
+abbrev pub byteIn : List ℕ → List ℕ → ℕ → Bool
+byteIn heard r t = eqb (bitAnd (getD heard t 0) (getD r (t % 128) 0)) (getD heard t 0)

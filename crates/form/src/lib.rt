@@ -5,9 +5,10 @@ ghost use Prim.Native.Nat.{ℕ, _+_, _*_, _^_, _≤_, _<_};
 ghost use lib.Dec.{eqb, leb, ltb};
 ghost use lib.ListN.{length, getD, take};
 ghost use Rattle.rules.specs.Tests.{all, allBelow, distinct, bit, count, first};
-ghost use Rattle.rules.specs.Words.{nodesIn, faultyIn, rowsIn, capacityIn, tubeIn, heightOf};
-ghost use Rattle.rules.specs.Lent.{counts, tables, roomOf, intakeOf, sameScan};
-ghost use Rattle.form.specs.Form.{lengths, passes, share, newScan, houseFormed, bareOf, lacking, held};
+ghost use Rattle.rules.specs.Words.{nodesIn, faultyIn, rowsIn, capacityIn, tubeIn, heightOf, sameMsg};
+ghost use Rattle.rules.specs.Lent.{pairsOf, boardOf, counts, tables, roomOf, intakeOf, sameScan};
+ghost use Rattle.form.specs.Form.{lengths, passes, share, newScan, houseFormed, bareOf, lacking, held, newMessage, promiseBit, Promises, byteIn};
+ghost use Rattle.board.specs.Asked.{Plain};
 use rules::House;
 use rules::Message;
 
@@ -255,4 +256,95 @@ pub fn held_ok(nodes: u8, rows: u8, tubes: u8, m: Message) -> bool
         return place & tube;
     }
     place & ((m.node < nodes) & tube)
+}
+
+// The message numbered k is none of those before it.
+pub fn message_new(board: &[u8], k: usize) -> bool
+    requires { ⌜ k < 1024 ⌝ }
+    requires { ⌜ 40 * k + 40 ≤ length (now board) ⌝ }
+    ensures { λ r. ⌜ r ≡ newMessage (now (board .entry)) k ⌝ }
+{
+    let a = 40 * k;
+    let e = a + 40;
+    !board::stands(board, k, &board[a..e])
+}
+
+// No two of the first n messages are equal.
+pub fn messages_differ(board: &[u8], n: usize) -> bool
+    requires { ⌜ Plain (now board) n ⌝ }
+    ensures { λ r. ⌜ r ≡ distinct sameMsg (boardOf (now (board .entry)) n) ⌝ }
+{
+    let mut i: usize = 0;
+    while i < n {
+        if !message_new(board, i) {
+            return false;
+        }
+        i += 1;
+    }
+    true
+}
+
+// ---- heard bits
+
+// The bit of a message in its byte if its first byte says 1b.
+pub fn promise_bit(kind: u8, k: usize) -> u8
+    ensures { λ r. ⌜ r ≡ promiseBit kind k ⌝ }
+{
+    if kind == 2 {
+        return 1u8 << (k % 8);
+    }
+    0
+}
+
+// The bits of the 1b messages among the first n, laid out as one node's heard bytes.
+pub fn promises(board: &[u8], n: usize) -> [u8; 128]
+    requires { ⌜ n ≤ 1024 ⌝ }
+    requires { ⌜ 40 * n ≤ length (now board) ⌝ }
+    ensures { λ r. ⌜ Promises (now (board .entry)) n r ⌝ }
+{
+    let mut out = [0u8; 128];
+    let mut k: usize = 0;
+    while k < n {
+        let b = promise_bit(board[40 * k], k);
+        let at = k / 8;
+        out[at] = out[at] | b;
+        k += 1;
+    }
+    out
+}
+
+// The first n heard bytes have only bits of these, which are one node's.
+pub fn bytes_in(heard: &[u8], n: usize, these: &[u8]) -> bool
+    requires { ⌜ n ≤ length (now heard) ⌝ }
+    requires { ⌜ length (now these) ≡ 128 ⌝ }
+    ensures { λ r. ⌜ r ≡ allBelow (byteIn (now (heard .entry)) (now (these .entry))) n ⌝ }
+{
+    let mut t: usize = 0;
+    while t < n {
+        let x = heard[t];
+        let j = t % 128;
+        if (x & these[j]) != x {
+            return false;
+        }
+        t += 1;
+    }
+    true
+}
+
+// ---- pairs
+
+// The tubes of the first n pairs are on intake.
+pub fn pairs_scanned(pairs: &[u8], n: usize, tubes: u8) -> bool
+    requires { ⌜ 2 * n ≤ length (now pairs) ⌝ }
+    ensures { λ r. ⌜ r ≡ all (λ p. leb (p .0) tubes) (pairsOf n (now (pairs .entry))) ⌝ }
+{
+    let mut i: usize = 0;
+    while i < n {
+        let at = 2 * i;
+        if tubes < pairs[at] {
+            return false;
+        }
+        i += 1;
+    }
+    true
 }
