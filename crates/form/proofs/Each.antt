@@ -10,9 +10,7 @@ use native.Mathlib.Omega.{arith}
 use lib.ListN.{length, getD, take}
 use lib.Seq.{take-suc}
 use Rattle.rules.specs.Tests.{any, all, anyBelow, allBelow, distinct}
-use Rattle.rules.specs.Words.{Pair}
-use Rattle.rules.specs.Lent.{boardOf, meaning, msgAt, pairsOf, intakeOf, sameScan}
-use Rattle.rules.proofs.Scan.{pairAt, pairs-last}
+use Rattle.rules.specs.Lent.{boardOf, meaning, msgAt, intakeOf, sameScan}
 use Rattle.form.specs.Form.{scanAt, newScan}
 
 -- ---- numbers
@@ -49,7 +47,7 @@ pub each-same : (p q : ℕ → Bool) (n : ℕ) → ((i : ℕ) → i < n → p i 
 each-same p q zero f = refl
 each-same p q (suc n) f = rw (f n (omega arith), each-same p q n (λ i l. f i (omega arith)))
 
-and-assoc : (a b c : Bool) → a && (b && c) ≡ (a && b) && c
+pub and-assoc : (a b c : Bool) → a && (b && c) ≡ (a && b) && c
 and-assoc true b c = refl
 and-assoc false b c = refl
 
@@ -95,10 +93,6 @@ pub intake-build : (a b : List ℕ) (n : ℕ) → intakeOf a b n ≡ build (λ i
 intake-build a b zero = refl
 intake-build a b (suc n) = rw (intake-build a b n)
 
-pub pairs-build : (s : List ℕ) (n : ℕ) → pairsOf n s ≡ build (pairAt s) n
-pairs-build s zero = refl
-pairs-build s (suc n) = pairs-last s n ∙ rw (pairs-build s n)
-
 pub take-build : (l : List ℕ) (n : ℕ) → n ≤ length l → take n l ≡ build (λ i. getD l i 0) n
 take-build l zero h = refl
 take-build l (suc n) h = take-suc l n 0 h ∙ rw (take-build l n (omega arith))
@@ -118,10 +112,6 @@ all-build p f (suc n) = all-last p (build f n) (f n) ∙ rw (all-build p f n)
 -- the first n of a list pass
 pub all-take : (p : ℕ → Bool) (l : List ℕ) (n : ℕ) → n ≤ length l → all p (take n l) ≡ allBelow (λ i. p (getD l i 0)) n
 all-take p l n h = ap (all p) (take-build l n h) ∙ all-build p (λ i. getD l i 0) n
-
--- the first n pairs pass
-pub all-pairs : (p : Pair → Bool) (s : List ℕ) (n : ℕ) → all p (pairsOf n s) ≡ allBelow (λ i. p (pairAt s i)) n
-all-pairs p s n = ap (all p) (pairs-build s n) ∙ all-build p (pairAt s) n
 
 -- no element of the list is the same as a later one
 not-any : {A : Type 0} (p : A → Bool) (l : List A) → not (any p l) ≡ all (λ x. not (p x)) l

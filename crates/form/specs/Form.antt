@@ -1,18 +1,17 @@
 -- What the parts of the gate decide, over just what each part reads.
 use mathlib.Core.Path.{_≡_}
 use mathlib.Core.Bool.{Bool, true, false, not, _&&_, _||_}
-use mathlib.Core.List.{List}
+use mathlib.Core.List.{List, [], _∷_}
 use Prim.Native.Nat.{ℕ, _*_, _%_, _^_, _<_}
 use lib.Bits.{bitAnd}
 use lib.Dec.{eqb, leb, ltb}
 use lib.ListN.{length, getD}
-use Rattle.rules.specs.Tests.{pick, all, allBelow, distinct, eqs, bit, count, first}
+use Rattle.rules.specs.Tests.{pick, all, allBelow, eqs, bit, count}
 use Rattle.rules.specs.Words.{balIn, tubeIn, heightOf, Room}
-use Rattle.rules.specs.Lent.{window, pairsOf, bytesOf, meaning, boardOf, heardAt, is1bAt, stored, meaningCell, tables, roomOf, intakeOf, sameScan, pairsIn, goodMsg, goodCell}
+use Rattle.rules.specs.Lent.{Memory, window, pairsOf, bytesOf, meaning, stored, boardOf, meaningCell, heardAt, sameScan, counts, long, pairsIn, goodMsg, goodCell, is1bAt, inForm}
 use Rattle.rules.specs.Replies.{pairsPlain}
 use Rattle.rules.specs.declared.Message.{Message}
 use Rattle.rules.specs.declared.Cell as stored-cell
-use Rattle.rules.specs.declared.House.{House}
 use Rattle.form.specs.declared.Asked.{Asked}
 use Rattle.form.specs.declared.Asked.the-variants.{Present, Shares, Strong}
 
@@ -38,11 +37,7 @@ scanAt a b i = (getD a i 0, getD b i 0)
 abbrev pub newScan : List ℕ → List ℕ → ℕ → Bool
 newScan a b k = allBelow (λ j. not (sameScan (scanAt a b j) (scanAt a b k))) k
 
--- the house record's tables pass opening; intake scans differ; marks name only existing nodes
-abbrev pub houseFormed : House → Bool
-houseFormed h = eqb (first (tables (roomOf h))) 0 && (distinct sameScan (intakeOf (h .stations) (h .serials) (h .tubes)) && ltb (h .marks) (2 ^ h .nodes))
-
--- ---- a stored cell
+-- ---- pairs and cells
 
 -- the pairs are in their limits and ascend, unused ones are 0, and their tubes are on intake
 abbrev pub paired : ℕ → ℕ → List ℕ → Bool
@@ -76,6 +71,10 @@ held nodes rows t m = ((leb 1 (m .row) && leb (m .row) rows) && balIn (m .bal))
     (pick (eqb (m .kind) 3) (tubeIn (m .tube) && leb (m .tube) t)
     (ltb (m .node) nodes && (tubeIn (m .tube) && leb (m .tube) t))))
 
+-- so it is plain and good
+abbrev pub messageFields : ℕ → ℕ → ℕ → Message → Bool
+messageFields nodes rows t m = (lacking m && held nodes rows t m) && paired t (m .count) (m .pairs)
+
 -- ---- the board
 
 -- the message numbered k is none of those before it, by its bytes
@@ -96,3 +95,9 @@ pub record Promises (s : List ℕ) (n : ℕ) (r : List ℕ) : Type 0 where
 -- byte t of the heard area has only bits of r, which is one node's
 abbrev pub byteIn : List ℕ → List ℕ → ℕ → Bool
 byteIn heard r t = eqb (bitAnd (getD heard t 0) (getD r (t % 128) 0)) (getD heard t 0)
+
+-- ---- the gate
+
+-- a call's own areas being long enough or not
+abbrev pub gateOf : Memory → Bool → List (Bool × ℕ)
+gateOf m areas = (counts (m .house), 17) ∷ (long m && areas, 5) ∷ (inForm m, 17) ∷ []

@@ -1,14 +1,16 @@
 // The gate of every call: counts, lengths and form of lent memory, each part decided by one small function.
 ghost use mathlib.Core.Path.{_≡_};
 ghost use mathlib.Core.Bool.{Bool, true, false, not, _&&_, _||_};
+ghost use mathlib.Core.List.{[]};
 ghost use Prim.Native.Nat.{ℕ, _+_, _*_, _^_, _≤_, _<_};
 ghost use lib.Dec.{eqb, leb, ltb};
 ghost use lib.ListN.{length, getD, take};
 ghost use Rattle.rules.specs.Tests.{all, allBelow, distinct, bit, count, first};
 ghost use Rattle.rules.specs.Words.{nodesIn, faultyIn, rowsIn, capacityIn, tubeIn, heightOf, sameMsg};
-ghost use Rattle.rules.specs.Lent.{pairsOf, boardOf, counts, tables, roomOf, intakeOf, sameScan};
-ghost use Rattle.form.specs.Form.{lengths, passes, share, newScan, houseFormed, bareOf, lacking, held, newMessage, promiseBit, Promises, byteIn};
+ghost use Rattle.rules.specs.Lent.{memory, boardOf, counts, long, tables, roomOf, intakeOf, sameScan, plainMsg, goodMsg, cellForm, houseForm, boardForm, heardForm, inForm};
+ghost use Rattle.form.specs.Form.{lengths, passes, share, newScan, paired, cellFormed, bareOf, lacking, held, messageFields, newMessage, promiseBit, Promises, byteIn, gateOf};
 ghost use Rattle.board.specs.Asked.{Plain};
+use rules::Cell;
 use rules::House;
 use rules::Message;
 
@@ -185,7 +187,7 @@ pub fn scans_differ(stations: &[u8], serials: &[u32], n: usize) -> bool
 // The tables pass opening, intake scans differ from one another, marks name only existing nodes.
 pub fn house_ok(h: House) -> bool
     requires { ⌜ counts h ≡ true ⌝ }
-    ensures { λ r. ⌜ r ≡ houseFormed h ⌝ }
+    ensures { λ r. ⌜ r ≡ houseForm (memory h [] [] []) ⌝ }
 {
     if tables_number(h) != 0 {
         return false;
@@ -197,6 +199,55 @@ pub fn house_ok(h: House) -> bool
         return false;
     }
     (h.marks as u16) < (1u16 << h.nodes)
+}
+
+// ---- pairs and cells
+
+// The pairs are in their limits and ascend, unused ones are 0, and their tubes are on intake.
+pub fn pairs_ok(pairs: [u8; 32], count: u8, tubes: u8) -> bool
+    ensures { λ r. ⌜ r ≡ paired tubes count pairs ⌝ }
+{
+    if !pairs::pairs_in(pairs, count) {
+        return false;
+    }
+    pairs::each(pairs, count, pairs::Ask::Scanned(tubes))
+}
+
+// A stored ballot that may be none is in its limits.
+pub fn height_in(x: u8) -> bool
+    ensures { λ r. ⌜ r ≡ leb (heightOf x) 16 ⌝ }
+{
+    (x == 255) | (x <= 15)
+}
+
+// A stored cell is in form.
+pub fn cell_ok(c: Cell, tubes: u8) -> bool
+    ensures { λ r. ⌜ r ≡ cellFormed tubes c ⌝ }
+{
+    let ballots = height_in(c.maxbal) & height_in(c.maxvbal);
+    let vote = (c.maxvval <= 64) & (c.maxvval <= tubes);
+    if !(ballots & vote) {
+        return false;
+    }
+    let p = c.pairs;
+    pairs_ok(p, c.count, tubes)
+}
+
+// The first n cells are in form.
+pub fn cells_ok(cells: &[u8], n: usize, tubes: u8) -> bool
+    requires { ⌜ n ≤ 512 ⌝ }
+    requires { ⌜ 36 * n ≤ length (now cells) ⌝ }
+    ensures { λ r. ⌜ r ≡ allBelow (cellForm tubes (now (cells .entry))) n ⌝ }
+{
+    let mut i: usize = 0;
+    while i < n {
+        let c = cell::cell_at(cells, i);
+        if !cell_ok(c, tubes) {
+            return false;
+        }
+        i += 1;
+    }
+    true
 }
 
 // ---- messages
@@ -225,13 +276,6 @@ pub fn lacking_ok(m: Message) -> bool
     ((m.kind == 4) | (m.kind == 5)) & none
 }
 
-// A stored ballot that may be none is in its limits.
-pub fn height_in(x: u8) -> bool
-    ensures { λ r. ⌜ r ≡ leb (heightOf x) 16 ⌝ }
-{
-    (x == 255) | (x <= 15)
-}
-
 // A tube that may not be none is in its limits and on intake.
 pub fn tube_in(tube: u8, tubes: u8) -> bool
     ensures { λ r. ⌜ r ≡ tubeIn tube && leb tube tubes ⌝ }
@@ -258,6 +302,35 @@ pub fn held_ok(nodes: u8, rows: u8, tubes: u8, m: Message) -> bool
     place & ((m.node < nodes) & tube)
 }
 
+// A stored message is plain and good.
+pub fn message_ok(nodes: u8, rows: u8, tubes: u8, m: Message) -> bool
+    ensures { λ r. ⌜ r ≡ messageFields nodes rows tubes m ⌝ }
+{
+    if !(lacking_ok(m) & held_ok(nodes, rows, tubes, m)) {
+        return false;
+    }
+    let p = m.pairs;
+    pairs_ok(p, m.count, tubes)
+}
+
+// Every message is plain and good.
+pub fn messages_ok(h: House, board: &[u8]) -> bool
+    requires { ⌜ counts h ≡ true ⌝ }
+    requires { ⌜ 40 * h .capacity ≤ length (now board) ⌝ }
+    ensures { λ r. ⌜ r ≡ allBelow (plainMsg (now (board .entry))) (h .count) && all (goodMsg (roomOf h) (h .tubes)) (boardOf (now (board .entry)) (h .count)) ⌝ }
+{
+    let n = h.count as usize;
+    let mut i: usize = 0;
+    while i < n {
+        let m = board::msg_at(board, i);
+        if !message_ok(h.nodes, h.rows, h.tubes, m) {
+            return false;
+        }
+        i += 1;
+    }
+    true
+}
+
 // The message numbered k is none of those before it.
 pub fn message_new(board: &[u8], k: usize) -> bool
     requires { ⌜ k < 1024 ⌝ }
@@ -282,6 +355,19 @@ pub fn messages_differ(board: &[u8], n: usize) -> bool
         i += 1;
     }
     true
+}
+
+// Every message is plain and good, and no two are equal.
+pub fn board_ok(h: House, board: &[u8]) -> bool
+    requires { ⌜ counts h ≡ true ⌝ }
+    requires { ⌜ 40 * h .capacity ≤ length (now board) ⌝ }
+    ensures { λ r. ⌜ r ≡ boardForm (memory h (now (board .entry)) [] []) ⌝ }
+{
+    if !messages_ok(h, board) {
+        return false;
+    }
+    let n = h.count as usize;
+    messages_differ(board, n)
 }
 
 // ---- heard bits
@@ -331,20 +417,60 @@ pub fn bytes_in(heard: &[u8], n: usize, these: &[u8]) -> bool
     true
 }
 
-// ---- pairs
-
-// The tubes of the first n pairs are on intake.
-pub fn pairs_scanned(pairs: &[u8], n: usize, tubes: u8) -> bool
-    requires { ⌜ 2 * n ≤ length (now pairs) ⌝ }
-    ensures { λ r. ⌜ r ≡ all (λ p. leb (p .0) tubes) (pairsOf n (now (pairs .entry))) ⌝ }
+// Heard bits stand only at 1b messages.
+pub fn heard_ok(h: House, board: &[u8], heard: &[u8]) -> bool
+    requires { ⌜ counts h ≡ true ⌝ }
+    requires { ⌜ 40 * h .capacity ≤ length (now board) ⌝ }
+    requires { ⌜ 128 * h .nodes ≤ length (now heard) ⌝ }
+    ensures { λ r. ⌜ r ≡ heardForm (memory h (now (board .entry)) [] (now (heard .entry))) ⌝ }
 {
-    let mut i: usize = 0;
-    while i < n {
-        let at = 2 * i;
-        if tubes < pairs[at] {
-            return false;
-        }
-        i += 1;
+    let n = h.count as usize;
+    let p = promises(board, n);
+    let k = h.nodes as usize;
+    bytes_in(heard, 128 * k, &p)
+}
+
+// ---- the gate
+
+// Memory is in form.
+pub fn form_ok(h: House, board: &[u8], cells: &[u8], heard: &[u8]) -> bool
+    requires { ⌜ counts h ≡ true ⌝ }
+    requires { ⌜ long (memory h (now board) (now cells) (now heard)) ≡ true ⌝ }
+    ensures { λ r. ⌜ r ≡ inForm (memory h (now (board .entry)) (now (cells .entry)) (now (heard .entry))) ⌝ }
+{
+    if !house_ok(h) {
+        return false;
     }
-    true
+    if !board_ok(h, board) {
+        return false;
+    }
+    let n = h.nodes as usize;
+    let r = h.rows as usize;
+    if !cells_ok(cells, n * r, h.tubes) {
+        return false;
+    }
+    heard_ok(h, board, heard)
+}
+
+// What the gate answers, where a call's own areas are long enough or not: 17 for a count, 5, 17 for the form, or 0.
+pub fn gate_with(h: House, board: &[u8], cells: &[u8], heard: &[u8], areas: bool) -> u8
+    ensures { λ r. ⌜ r ≡ first (gateOf (memory h (now (board .entry)) (now (cells .entry)) (now (heard .entry))) areas) ⌝ }
+{
+    if !counts_ok(h) {
+        return 17;
+    }
+    if !(lengths_ok(h.nodes, h.rows, h.capacity, board, cells, heard) & areas) {
+        return 5;
+    }
+    if !form_ok(h, board, cells, heard) {
+        return 17;
+    }
+    0
+}
+
+// What the gate answers to a call that has no areas of its own.
+pub fn gate(h: House, board: &[u8], cells: &[u8], heard: &[u8]) -> u8
+    ensures { λ r. ⌜ r ≡ first (gateOf (memory h (now (board .entry)) (now (cells .entry)) (now (heard .entry))) true) ⌝ }
+{
+    gate_with(h, board, cells, heard, true)
 }
