@@ -22,7 +22,7 @@ use Rattle.rules.proofs.Codec.{or-no, length-board, heard-set}
 use Rattle.rules.proofs.Scan.{both-ways}
 use Rattle.board.proofs.Means.{kind-in, kind-out, is1b-kind}
 use Rattle.form.specs.Form.{Promises, promiseBit, byteIn}
-use Rattle.form.proofs.Each.{each-at, each-all, each-same, each-parts}
+use Rattle.rules.proofs.Each.{each-at, each-all, each-same, each-parts}
 
 -- ---- a byte by its bits
 

@@ -16,7 +16,7 @@ use Rattle.rules.specs.declared.Message.{Message}
 use Rattle.rules.specs.declared.Cell as stored-cell
 use Rattle.rules.proofs.Sound.{and-l, and-r}
 use Rattle.form.specs.Form.{lacking, held, paired, messageFields, messageFormed, cellFormed}
-use Rattle.form.proofs.Each.{each-both, each-same, build, board-build, take-build, all-build}
+use Rattle.rules.proofs.Each.{each-both, each-same, build, board-build, take-build, all-build}
 
 -- ---- a height that is stored again, and the pairs that are counted again
 

@@ -1,41 +1,17 @@
 -- What the parts of the gate decide, over just what each part reads.
 use mathlib.Core.Path.{_≡_}
-use mathlib.Core.Bool.{Bool, true, false, not, _&&_, _||_}
+use mathlib.Core.Bool.{Bool, true, _&&_, _||_}
 use mathlib.Core.List.{List, [], _∷_}
-use Prim.Native.Nat.{ℕ, _*_, _%_, _^_, _<_}
+use Prim.Native.Nat.{ℕ, _%_, _^_, _<_}
 use lib.Bits.{bitAnd}
 use lib.Dec.{eqb, leb, ltb}
 use lib.ListN.{length, getD}
-use Rattle.rules.specs.Tests.{pick, all, allBelow, eqs, bit, count}
+use Rattle.rules.specs.Tests.{pick, all, eqs}
 use Rattle.rules.specs.Words.{balIn, tubeIn, heightOf, Room}
-use Rattle.rules.specs.Lent.{Memory, window, pairsOf, bytesOf, meaning, stored, boardOf, meaningCell, heardAt, sameScan, counts, long, pairsIn, goodMsg, goodCell, is1bAt, inForm}
+use Rattle.rules.specs.Lent.{Memory, pairsOf, bytesOf, meaning, stored, boardOf, meaningCell, heardAt, counts, long, pairsIn, goodMsg, goodCell, is1bAt, inForm}
 use Rattle.rules.specs.Replies.{pairsPlain}
 use Rattle.rules.specs.declared.Message.{Message}
 use Rattle.rules.specs.declared.Cell as stored-cell
-use Rattle.form.specs.declared.Asked.{Asked}
-use Rattle.form.specs.declared.Asked.the-variants.{Present, Shares, Strong}
-
--- areas of these lengths serve a room of these sizes
-abbrev pub lengths : ℕ → ℕ → ℕ → ℕ → ℕ → ℕ → Bool
-lengths nodes rows capacity b c k = leb (40 * capacity) b && (leb (36 * (nodes * rows)) c && leb (128 * nodes) k)
-
--- two sets share more than f nodes
-abbrev pub share : ℕ → ℕ → ℕ → ℕ → Bool
-share nodes faulty p q = ltb faulty (count (λ n. bit p n && bit q n) nodes)
-
--- what the tables ask of a set
-abbrev pub passes : ℕ → ℕ → Asked → ℕ → Bool
-passes nodes faulty Present q = ltb q (2 ^ nodes)
-passes nodes faulty (Shares p) q = share nodes faulty p q
-passes nodes faulty Strong q = ltb faulty (count (bit q) nodes)
-
--- the scan numbered i of intake
-abbrev pub scanAt : List ℕ → List ℕ → ℕ → ℕ × ℕ
-scanAt a b i = (getD a i 0, getD b i 0)
-
--- it is none of those before it
-abbrev pub newScan : List ℕ → List ℕ → ℕ → Bool
-newScan a b k = allBelow (λ j. not (sameScan (scanAt a b j) (scanAt a b k))) k
 
 -- ---- pairs and cells
 
@@ -74,12 +50,6 @@ held nodes rows t m = ((leb 1 (m .row) && leb (m .row) rows) && balIn (m .bal))
 -- so it is plain and good
 abbrev pub messageFields : ℕ → ℕ → ℕ → Message → Bool
 messageFields nodes rows t m = (lacking m && held nodes rows t m) && paired t (m .count) (m .pairs)
-
--- ---- the board
-
--- the message numbered k is none of those before it, by its bytes
-abbrev pub newMessage : List ℕ → ℕ → Bool
-newMessage s k = allBelow (λ j. not (eqs (window 40 j s) (window 40 k s))) k
 
 -- ---- heard bits
 

@@ -5,7 +5,7 @@ use Prim.Native.Nat.{ℕ, _≤_}
 use native.Mathlib.Omega.{arith}
 use borrow.Author.Needs.{needs}
 use borrow.Author.Tests.{not-true, not-false}
-use Rattle.form.proofs.Counted.{board-are, board-plain}
+use Rattle.form.proofs.Says.{board-are, board-plain}
 use Rattle.form.proofs.board_ok.Statement.{statement}
 use Rattle.form.proofs.board_ok.Tie as tie
 

@@ -8,7 +8,7 @@ use borrow.Author.Tests.{eq-eqb, ne-eqb}
 use lib.ListN.{length, getD, take}
 use Rattle.rules.specs.Tests.{allBelow}
 use Rattle.form.specs.Form.{byteIn}
-use Rattle.form.proofs.Each.{each-more, each-stop}
+use Rattle.rules.proofs.Each.{each-more, each-stop}
 use Rattle.form.proofs.bytes_in.Statement.{statement}
 use Rattle.form.proofs.bytes_in.Tie as tie
 

@@ -9,7 +9,7 @@ use lib.ListN.{length, getD, take}
 use Rattle.rules.specs.Tests.{allBelow}
 use Rattle.rules.specs.Lent.{cellForm}
 use Rattle.form.specs.Form.{cellFormed}
-use Rattle.form.proofs.Each.{each-more, each-stop}
+use Rattle.rules.proofs.Each.{each-more, each-stop}
 use Rattle.form.proofs.Plain.{cell-formed}
 use Rattle.form.proofs.cells_ok.Statement.{statement}
 use Rattle.form.proofs.cells_ok.Tie as tie

@@ -6,7 +6,8 @@ use native.Mathlib.Omega.{arith}
 use borrow.Author.Needs.{needs}
 use borrow.Author.Tests.{not-true, not-false}
 use Rattle.rules.specs.Lent.{memory}
-use Rattle.form.proofs.Counted.{counted, lengthy, cells-few, form-are}
+use Rattle.tables.proofs.Counted.{counted}
+use Rattle.form.proofs.Says.{lengthy, cells-few, form-are}
 use Rattle.form.proofs.form_ok.Statement.{statement}
 use Rattle.form.proofs.form_ok.Tie as tie
 

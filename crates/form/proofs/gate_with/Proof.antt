@@ -8,7 +8,7 @@ use borrow.Author.Tests.{not-true, not-false}
 use Rattle.rules.specs.Lent.{memory, long}
 use Rattle.rules.proofs.Sound.{and-l}
 use Rattle.rules.proofs.Scan.{holds}
-use Rattle.form.proofs.Counted.{long-are, gate-are}
+use Rattle.form.proofs.Says.{long-are, gate-are}
 use Rattle.form.proofs.gate_with.Statement.{statement}
 use Rattle.form.proofs.gate_with.Tie as tie
 

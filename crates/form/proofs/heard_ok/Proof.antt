@@ -3,7 +3,7 @@ use mathlib.Core.Path.{_≡_, refl, ap, sym, _∙_}
 use native.Mathlib.Omega.{arith}
 use borrow.Author.Needs.{needs}
 use Rattle.rules.specs.Lent.{heardForm}
-use Rattle.form.proofs.Counted.{board-fits}
+use Rattle.form.proofs.Says.{board-fits}
 use Rattle.form.proofs.Heard.{heard-formed}
 use Rattle.form.proofs.heard_ok.Statement.{statement}
 use Rattle.form.proofs.heard_ok.Tie as tie

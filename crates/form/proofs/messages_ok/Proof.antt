@@ -9,8 +9,8 @@ use lib.ListN.{length, getD, take}
 use Rattle.rules.specs.Tests.{allBelow}
 use Rattle.rules.specs.Lent.{msgAt, roomOf}
 use Rattle.form.specs.Form.{messageFields}
-use Rattle.form.proofs.Each.{each-more, each-stop}
-use Rattle.form.proofs.Counted.{board-fits}
+use Rattle.rules.proofs.Each.{each-more, each-stop}
+use Rattle.form.proofs.Says.{board-fits}
 use Rattle.form.proofs.Plain.{messages-are}
 use Rattle.form.proofs.messages_ok.Statement.{statement}
 use Rattle.form.proofs.messages_ok.Tie as tie

@@ -3,7 +3,7 @@ use Prim.Native.Nat.{_%_}
 use native.Mathlib.Omega.{arith}
 use borrow.Author.Needs.{needs}
 use borrow.Author.Tests.{eq-eqb, ne-eqb}
-use Rattle.form.proofs.Sets.{power-fits}
+use Rattle.tables.proofs.Sets.{power-fits}
 use Rattle.form.proofs.promise_bit.Statement.{statement}
 use Rattle.form.proofs.promise_bit.Tie as tie
 
