@@ -1,0 +1,3 @@
+pub mod Splits
+pub mod Decimal
+pub mod Cases

@@ -1,0 +1,4 @@
+pub mod Splits
+pub mod Decimal
+pub mod Grammar
+pub mod Cases
