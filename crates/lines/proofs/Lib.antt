@@ -1,3 +1,4 @@
 pub mod Splits
 pub mod Decimal
+pub mod Listing
 pub mod Cases

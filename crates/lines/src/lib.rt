@@ -1,12 +1,14 @@
 // The sheet's lines: where a line ends, what a line says, and how a decimal is read and written.
 ghost use mathlib.Core.Path.{_≡_};
 ghost use mathlib.Core.Bool.{true};
+ghost use mathlib.Core.List.{[]};
 ghost use Prim.Native.Nat.{ℕ, _+_, _≤_, _<_};
 ghost use lib.ListN.{length, drop, take};
 ghost use Rattle.rules.specs.Lent.{patch};
 ghost use Rattle.lines.specs.Splits.{next};
 ghost use Rattle.lines.specs.Decimal.{most, isDigit, follows, numberAt, decimal};
-ghost use Rattle.lines.specs.Grammar.{parsed, lineAs};
+ghost use Rattle.lines.specs.Grammar.{pairIn, pairsOf, byForm, forms, nothing, orElse, found, lineAs, parsed};
+ghost use Rattle.lines.specs.Held.{endOr, coupleOf, heldPairs, kept, marks};
 
 // Where a line ends: at a newline, or not yet in what was read.
 pub enum End {
@@ -101,6 +103,19 @@ pub struct Parsed {
     pub pairs: [u32; 32],
 }
 
+// One pair of a foreign 1b: tube and ballot.
+enum Couple {
+    Of(u32, u32),
+    Bad,
+}
+
+// The pairs of a foreign 1b: whether the text was well formed, how many there are, and the first sixteen.
+struct Pairs {
+    whole: bool,
+    count: u32,
+    pairs: [u32; 32],
+}
+
 // The form that a line has, numbered from 1 (0: none), its numbers, and its pairs.
 struct Fields {
     form: u8,
@@ -176,4 +191,102 @@ pub fn read_number(s: &[u8], at: usize) -> Number
         end += 1;
     }
     Number::At(value as u32, end)
+}
+
+// A number's decimal into a place of a buffer; tells where it ends.
+pub fn put_decimal(buf: &mut [u8], at: usize, n: u32) -> usize
+    requires { ⌜ at + length (decimal n) ≤ length (now buf) ⌝ }
+    ensures { λ r. ⌜ (r ≡ at + length (decimal n)) × (now (buf .exit) ≡ patch (now (buf .entry)) at (decimal n)) ⌝ }
+{
+    if n < 10 {
+        buf[at] = b'0' + n as u8;
+        return at + 1;
+    }
+    let last = put_decimal(buf, at, n / 10);
+    buf[last] = b'0' + (n % 10) as u8;
+    last + 1
+}
+
+// The end of the pair that begins at a place.
+fn pair_end(s: &[u8], at: usize) -> usize
+    ensures { λ r. ⌜ r ≡ endOr (next 44 (drop at (now (s .entry))) at) (length (now (s .entry))) ⌝ }
+{
+    let End::At(e) = next_place(s, at, b',') else {
+        return s.len();
+    };
+    e
+}
+
+// A pair: the whole text is a tube, a colon and a ballot.
+fn read_pair(s: &[u8]) -> Couple
+    ensures { λ r. ⌜ r ≡ coupleOf (pairIn (now (s .entry))) ⌝ }
+{
+    let Number::At(tube, at) = read_number(s, 0) else {
+        return Couple::Bad;
+    };
+    if s.len() <= at {
+        return Couple::Bad;
+    }
+    if s[at] != b':' {
+        return Couple::Bad;
+    }
+    let Number::At(ballot, end) = read_number(s, at + 1) else {
+        return Couple::Bad;
+    };
+    if end != s.len() {
+        return Couple::Bad;
+    }
+    Couple::Of(tube, ballot)
+}
+
+// The pairs with one more, if it is one of the first sixteen.
+fn keep_pair(mut pairs: [u32; 32], k: u32, tube: u32, ballot: u32) -> [u32; 32]
+    ensures { λ r. ⌜ r ≡ kept pairs k tube ballot ⌝ }
+{
+    if 16 <= k {
+        return pairs;
+    }
+    let i = 2 * k as usize;
+    pairs[i] = tube;
+    pairs[i + 1] = ballot;
+    pairs
+}
+
+// The pairs from a place of a line to its end.
+fn read_pairs(s: &[u8], from: usize) -> Pairs
+    requires { ⌜ length (now s) ≤ 200 ⌝ }
+    ensures { λ r. ⌜ r ≡ heldPairs (pairsOf (drop from (now (s .entry)))) ⌝ }
+{
+    let mut pairs = [0u32; 32];
+    let mut count: u32 = 0;
+    if s.len() <= from {
+        return Pairs {
+            whole: true,
+            count,
+            pairs,
+        };
+    }
+    let mut at = from;
+    loop {
+        let end = pair_end(s, at);
+        let Couple::Of(tube, ballot) = read_pair(&s[at..end]) else {
+            let none = [0u32; 32];
+            return Pairs {
+                whole: false,
+                count: 0,
+                pairs: none,
+            };
+        };
+        let more = keep_pair(pairs, count, tube, ballot);
+        pairs = more;
+        count += 1;
+        if end == s.len() {
+            return Pairs {
+                whole: true,
+                count,
+                pairs,
+            };
+        }
+        at = end + 1;
+    }
 }
