@@ -1,15 +1,16 @@
 -- How pairs are read and kept, one after another.
-use mathlib.Core.Path.{_≡_, refl, sym, _∙_, ap}
+use mathlib.Core.Path.{_≡_, refl, sym, _∙_, ap, subst⁻¹}
 use mathlib.Core.Bool.{Bool, true, false, _&&_}
 use mathlib.Core.Option.{Option, none, some}
 use mathlib.Core.List.{List, [], _∷_, _++_}
 use Prim.Native.Nat.{ℕ, zero, suc, _+_, _-_, _*_, _≤_, _<_}
 use native.Mathlib.Numerals.{add-one}
 use native.Mathlib.Omega.{arith}
-use lib.Dec.{eqb, ltb}
+use lib.Dec.{T, eqb, ltb, ltb→lt}
 use lib.ListN.{length, getD, take, drop, set, length-append}
 use lib.Seq.{drop-cons}
 use borrow.Author.Tests.{lt-ltb, le-ltb, eq-eqb, ne-eqb, ltb-true, ltb-false}
+use Rattle.rules.proofs.Sound.{and-l}
 use Rattle.rules.specs.Tests.{pick, fit}
 use Rattle.rules.specs.Words.{Pair}
 use Rattle.rules.specs.Lent.{flatten, pairBytes}
@@ -20,17 +21,8 @@ use Rattle.lines.specs.Decimal.{numberAt}
 use Rattle.lines.specs.Grammar.{stands, ends, pairIn, pairsIn, pairsOf}
 use Rattle.lines.specs.Held.{coupleOf, heldPairs, kept}
 
--- ---- a byte at a place
-
-module _ (x : ℕ) (s : List ℕ) (at : ℕ) where
-  pub stands-out : length s ≤ at → stands x s at ≡ false
-  stands-out h = rw (le-ltb at (length s) h)
-
-  pub stands-not : at < length s → (getD s at 0 ≡ x → ⊥) → stands x s at ≡ false
-  stands-not h n = rw (lt-ltb at (length s) h, ne-eqb (getD s at 0) x n)
-
-  pub stands-here : at < length s → getD s at 0 ≡ x → stands x s at ≡ true
-  stands-here h e = rw (lt-ltb at (length s) h, eq-eqb (getD s at 0) x e)
+pub stands-within : (x : ℕ) (s : List ℕ) (at : ℕ) → stands x s at ≡ true → at < length s
+stands-within x s at e = ltb→lt at (length s) (and-l (ltb at (length s)) (eqb (getD s at 0) x) (subst⁻¹ T e tt))
 
 -- the end of a text
 module _ {A : Type 0} (s : List ℕ) (at : ℕ) (a : A) where

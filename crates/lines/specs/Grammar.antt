@@ -1,6 +1,6 @@
 -- "Chosen, book and sheet": which lines a sheet has, and what each of them says.
 use mathlib.Core.Bool.{Bool, _&&_}
-use mathlib.Core.List.{List, [], _∷_, _++_, map}
+use mathlib.Core.List.{List, [], _∷_, _++_}
 use mathlib.Core.Option.{Option, none, some}
 use Prim.Native.Nat.{ℕ, zero, suc, _-_}
 use Prim.Native.Char.{code}
@@ -69,7 +69,7 @@ paired ns (some ps) = some (ns, ps)
 paired ns none = none
 
 -- what the text s says by a form from a place on, after the numbers in hand
-abbrev pub byForm : List ℕ → List ℕ → ℕ → List ℕ → Option Said
+unfoldable pub byForm : List ℕ → List ℕ → ℕ → List ℕ → Option Said
 byForm [] s at ns = ends s at (ns, [])
 byForm (x ∷ f) s at ns =
     let counted = after (numberAt s at) (λ n at′. byForm f s at′ (ns ++ (n ∷ []))) in
@@ -115,11 +115,13 @@ abbrev pub found : List Form → ℕ → List ℕ → Fields
 found [] k s = nothing
 found (f ∷ l) k s = orElse (byForm (f .0) s 0 []) k (found l (suc k) s)
 
-abbrev pub bad : List ℕ → ℕ → Line
-bad n c = Bad
+-- the line of the form with the number k, of forms numbered from i on
+abbrev pub made : List Form → ℕ → ℕ → List ℕ → ℕ → Line
+made [] i k n c = Bad
+made (f ∷ l) i k n c = pick (eqb k i) (f .1 n c) (made l (suc i) k n c)
 
 unfoldable pub lineAs : Fields → Line
-lineAs f = getD (bad ∷ map (λ (x : Form). x .1) forms) (f .form) bad (f .numbers) (f .count)
+lineAs f = made forms 1 (f .form) (f .numbers) (f .count)
 
 -- "a line has at most 200 bytes before its newline"
 unfoldable pub fieldsOf : List ℕ → Fields
@@ -129,9 +131,6 @@ fieldsOf s = pick (leb (length s) 200) (found forms 1 s) nothing
 unfoldable pub lineOf : List ℕ → Line
 lineOf s = lineAs (fieldsOf s)
 
--- the pairs of a foreign 1b: the first sixteen, and zeros
-unfoldable pub linePairs : List ℕ → List ℕ
-linePairs s = fieldsOf s .pairs
-
+-- and beside it the pairs of a foreign 1b: the first sixteen, and zeros
 unfoldable pub parsed : List ℕ → Parsed
-parsed s = record { line = lineOf s; pairs = linePairs s }
+parsed s = record { line = lineOf s; pairs = fieldsOf s .pairs }

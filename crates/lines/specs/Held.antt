@@ -13,6 +13,7 @@ use Rattle.lines.specs.declared.End.the-variants.{At, Open}
 use Rattle.lines.specs.declared.Couple.{Couple}
 use Rattle.lines.specs.declared.Couple.the-variants.{Of, Bad}
 use Rattle.lines.specs.declared.Pairs.{Pairs}
+use Rattle.lines.specs.declared.Fields.{Fields}
 
 -- where a part ends: at the byte that was looked for, or at the end of the text
 abbrev pub endOr : End → ℕ → ℕ
@@ -35,3 +36,7 @@ kept ps k v b = pick (ltb k 16) (set (set ps (2 * k) v) (2 * k + 1) b) ps
 abbrev pub marks : List ℕ → ℕ
 marks [] = 0
 marks (x ∷ f) = one (eqb x 35) + marks f
+
+-- the fields of a form with pairs, else what the other forms found
+abbrev pub withPairs : Pairs → ℕ → List ℕ → Fields → Fields
+withPairs p k n f = pick (p .whole) (record { form = k; numbers = n; count = p .count; pairs = p .pairs }) f
