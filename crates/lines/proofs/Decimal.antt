@@ -1,6 +1,6 @@
 -- How a decimal is read, byte by byte; and what was written is read back.
 use mathlib.Core.Path.{_≡_, refl, sym, ap, _∙_, subst⁻¹}
-use mathlib.Core.Bool.{Bool, true, false, _&&_}
+use mathlib.Core.Bool.{Bool, true, false}
 use mathlib.Core.List.{List, [], _∷_, _++_, append-assoc}
 use Prim.Native.Nat.{ℕ, zero, suc, _+_, _-_, _*_, _/_, _%_, _^_, _≤_, _<_}
 use native.Mathlib.Nat.{pow-suc, add-assoc}
@@ -10,6 +10,7 @@ use lib.Dec.{T, leb, ltb, leb→le}
 use lib.ListN.{length, getD, take, drop, set, length-append, drop-of-length-le}
 use lib.Seq.{drop-cons, drop-drop, set-split, set-at, length-take-le, drop-append-seam}
 use borrow.Author.Tests.{lt-ltb, le-ltb, le-leb, ltb-true, ltb-false}
+use Rattle.rules.specs.Tests.{pick}
 use Rattle.rules.specs.Lent.{patch}
 use Rattle.rules.proofs.Sound.{and-l, and-r}
 use Rattle.lines.specs.declared.Number.the-variants.{At, Bad}
@@ -71,6 +72,19 @@ module _ (n : ℕ) where
 
   pub length-more : 10 ≤ n → n ≤ most → length (decimal n) ≡ length (decimal (n / 10)) + 1
   length-more h m = ap length (decimal-more h m) ∙ length-append (decimal (n / 10)) ((48 + n % 10) ∷ [])
+
+spelt-long : (k n : ℕ) → length (spelt k n) ≤ suc k
+spelt-long zero n = omega arith
+spelt-long (suc k) n = more (spelt k (n / 10)) (spelt-long k (n / 10)) (ltb n 10)
+  where
+    more : (front : List ℕ) → length front ≤ suc k → (q : Bool) → length (pick q ((48 + n) ∷ []) (front ++ ((48 + n % 10) ∷ []))) ≤ suc (suc k)
+    more front h true = omega arith
+    more front h false = simp length-append (omega arith)
+
+-- a decimal has at most ten digits
+pub decimal-long : (n : ℕ) → length (decimal n) ≤ 10
+unfolding decimal
+decimal-long n = spelt-long 9 n
 
 -- a byte stored, and a byte stored after a patch
 module _ (s : List ℕ) (at b : ℕ) where

@@ -1,5 +1,5 @@
 -- Lines of a sheet, good and bad, with what each says: one table.
-use mathlib.Core.List.{List, [], _∷_, _++_, map}
+use mathlib.Core.List.{List, [], _∷_, _++_}
 use Prim.Native.Nat.{ℕ}
 use Rattle.rules.specs.Tests.{fit, many}
 use Rattle.lines.specs.declared.Heading.the-variants.{Nodes, Faulty, Rows, Capacity, Quorum, Weak}

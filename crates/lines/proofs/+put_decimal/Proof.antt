@@ -9,107 +9,66 @@ use Rattle.lines.specs.Decimal.{decimal}
 use Rattle.lines.proofs.Decimal.{decimal-few, decimal-more, length-more, patch-one, patch-more}
 use borrow.Fn.Kinds.{In}
 use borrow.Fn.PlainCycle.{Measures, is, falls, and}
-use Rattle.lines.proofs.put_decimal.Reads as put-decimal
-use Rattle.lines.proofs.put_decimal.Kinds as put-decimal-kinds
-use Rattle.lines.proofs.+put_decimal.Lts-put_decimal as put-decimal-lts
+use Rattle.lines.proofs.put_decimal.Reads as reads
+use Rattle.lines.proofs.put_decimal.Kinds as kinds
+use Rattle.lines.proofs.+put_decimal.Lts-put_decimal as lts
 use Rattle.lines.proofs.+put_decimal.{statement}
 use Rattle.lines.proofs.+put_decimal.Tie.{close}
 
-abbrev μ-put-decimal : Measures 1 put-decimal-kinds.ps ℕ
-μ-put-decimal κs a = a .1 .1 .0
+abbrev μ : Measures 1 kinds.ps ℕ
+μ κs a = a .1 .1 .0
 
-abbrev put-decimal-at : ℕ → In 1 put-decimal-kinds.ps
-put-decimal-at t =
-    and 1 put-decimal-kinds.ps (is 1 put-decimal-kinds.ps μ-put-decimal t) put-decimal.Pre
+abbrev starts : ℕ → In 1 kinds.ps
+starts t = and 1 kinds.ps (is 1 kinds.ps μ t) reads.Pre
 
-abbrev put-decimal-below : ℕ → In 1 put-decimal-kinds.ps
-put-decimal-below t =
-    and 1 put-decimal-kinds.ps (falls 1 put-decimal-kinds.ps _<_ μ-put-decimal t) put-decimal.Pre
+abbrev below : ℕ → In 1 kinds.ps
+below t = and 1 kinds.ps (falls 1 kinds.ps _<_ μ t) reads.Pre
 
-put-decimal-cast-buf : (t : ℕ) → put-decimal-lts.Need-cast-buf (
-  put-decimal-below t,
-  put-decimal.Post,
-) (put-decimal-at t) put-decimal.Post
-put-decimal-cast-buf t c = omega arith
+cast-buf : (t : ℕ) → lts.Need-cast-buf (below t, reads.Post) (starts t) reads.Post
+cast-buf t c = omega arith
 
-put-decimal-add-buf : (t : ℕ) → put-decimal-lts.Need-add-buf (
-  put-decimal-below t,
-  put-decimal.Post,
-) (put-decimal-at t) put-decimal.Post
-put-decimal-add-buf t c = omega arith
+add-buf : (t : ℕ) → lts.Need-add-buf (below t, reads.Post) (starts t) reads.Post
+add-buf t c = omega arith
 
-put-decimal-slice-write-buf : (t : ℕ) → put-decimal-lts.Need-slice-write-buf (
-  put-decimal-below t,
-  put-decimal.Post,
-) (put-decimal-at t) put-decimal.Post
-put-decimal-slice-write-buf t c = omega (arith, ap length (decimal-few (c .before .before .args .n) (c .if1 .taken)))
+slice-write-buf : (t : ℕ) → lts.Need-slice-write-buf (below t, reads.Post) (starts t) reads.Post
+slice-write-buf t c = omega (arith, ap length (decimal-few (c .before .before .args .n) (c .if1 .taken)))
 
-put-decimal-add-result : (t : ℕ) → put-decimal-lts.Need-add-result (
-  put-decimal-below t,
-  put-decimal.Post,
-) (put-decimal-at t) put-decimal.Post
-put-decimal-add-result t c = omega (arith, ap length (decimal-few (c .before .before .args .n) (c .if1 .taken)))
+add-result : (t : ℕ) → lts.Need-add-result (below t, reads.Post) (starts t) reads.Post
+add-result t c = omega (arith, ap length (decimal-few (c .before .before .args .n) (c .if1 .taken)))
 
-put-decimal-same-length : (t : ℕ) → put-decimal-lts.Need-same-length (
-  put-decimal-below t,
-  put-decimal.Post,
-) (put-decimal-at t) put-decimal.Post
-put-decimal-same-length t c = simp length-set
+same-length : (t : ℕ) → lts.Need-same-length (below t, reads.Post) (starts t) reads.Post
+same-length t c = simp length-set
 
-put-decimal-returns : (t : ℕ) → put-decimal-lts.Need-returns (
-  put-decimal-below t,
-  put-decimal.Post,
-) (put-decimal-at t) put-decimal.Post
-put-decimal-returns t c =
+returns : (t : ℕ) → lts.Need-returns (below t, reads.Post) (starts t) reads.Post
+returns t c =
     let a = c .before .before .args in
     let few = decimal-few (a .n) (c .if1 .taken) in
     (rw few, rw few (patch-one (a .buf .now) (a .at) (48 + a .n) (omega (arith, ap length few))))
 
-put-decimal-put-decimal-requires : (t : ℕ) → put-decimal-lts.Need-put-decimal-requires (
-  put-decimal-below t,
-  put-decimal.Post,
-) (put-decimal-at t) put-decimal.Post
-put-decimal-put-decimal-requires t c κs = (omega arith, omega (arith, length-more (c .before .before .before .args .n) (omega arith) (omega arith)))
+put-decimal-requires : (t : ℕ) → lts.Need-put-decimal-requires (below t, reads.Post) (starts t) reads.Post
+put-decimal-requires t c κs = (omega arith, omega (arith, length-more (c .before .before .before .args .n) (omega arith) (omega arith)))
 
-put-decimal-cast-buf-2 : (t : ℕ) → put-decimal-lts.Need-cast-buf-2 (
-  put-decimal-below t,
-  put-decimal.Post,
-) (put-decimal-at t) put-decimal.Post
-put-decimal-cast-buf-2 t c = omega arith
+cast-buf-2 : (t : ℕ) → lts.Need-cast-buf-2 (below t, reads.Post) (starts t) reads.Post
+cast-buf-2 t c = omega arith
 
-put-decimal-add-buf-2 : (t : ℕ) → put-decimal-lts.Need-add-buf-2 (
-  put-decimal-below t,
-  put-decimal.Post,
-) (put-decimal-at t) put-decimal.Post
-put-decimal-add-buf-2 t c = omega arith
+add-buf-2 : (t : ℕ) → lts.Need-add-buf-2 (below t, reads.Post) (starts t) reads.Post
+add-buf-2 t c = omega arith
 
-put-decimal-slice-write-buf-2 : (t : ℕ) → put-decimal-lts.Need-slice-write-buf-2 (
-  put-decimal-below t,
-  put-decimal.Post,
-) (put-decimal-at t) put-decimal.Post
-put-decimal-slice-write-buf-2 t c =
+slice-write-buf-2 : (t : ℕ) → lts.Need-slice-write-buf-2 (below t, reads.Post) (starts t) reads.Post
+slice-write-buf-2 t c =
     let a = c .before .before .before .before .before .before .args in
     omega (arith, length-more (a .n) (omega arith) (omega arith), c .before .before .put-decimal .ensures .0, c .before .before .put-decimal .kept .0)
 
-put-decimal-add-result-2 : (t : ℕ) → put-decimal-lts.Need-add-result-2 (
-  put-decimal-below t,
-  put-decimal.Post,
-) (put-decimal-at t) put-decimal.Post
-put-decimal-add-result-2 t c =
+add-result-2 : (t : ℕ) → lts.Need-add-result-2 (below t, reads.Post) (starts t) reads.Post
+add-result-2 t c =
     let a = c .before .before .before .before .before .before .args in
     omega (arith, length-more (a .n) (omega arith) (omega arith), c .before .before .put-decimal .ensures .0)
 
-put-decimal-same-length-2 : (t : ℕ) → put-decimal-lts.Need-same-length-2 (
-  put-decimal-below t,
-  put-decimal.Post,
-) (put-decimal-at t) put-decimal.Post
-put-decimal-same-length-2 t c = simp length-set (c .before .before .put-decimal .kept .0)
+same-length-2 : (t : ℕ) → lts.Need-same-length-2 (below t, reads.Post) (starts t) reads.Post
+same-length-2 t c = simp length-set (c .before .before .put-decimal .kept .0)
 
-put-decimal-returns-2 : (t : ℕ) → put-decimal-lts.Need-returns-2 (
-  put-decimal-below t,
-  put-decimal.Post,
-) (put-decimal-at t) put-decimal.Post
-put-decimal-returns-2 t c =
+returns-2 : (t : ℕ) → lts.Need-returns-2 (below t, reads.Post) (starts t) reads.Post
+returns-2 t c =
     let a = c .before .before .before .before .before .before .args in
     let p = c .before .before .put-decimal in
     let more = length-more (a .n) (omega arith) (omega arith) in (
@@ -121,22 +80,19 @@ put-decimal-returns-2 t c =
     )
 
 pub +put-decimal-spec : {M : Type 1} → statement M
-+put-decimal-spec = close μ-put-decimal λ t. put-decimal-lts.spec (
-  put-decimal-below t,
-  put-decimal.Post,
-)
-    (put-decimal-at t)
-    put-decimal.Post
-    (put-decimal-cast-buf t)
-    (put-decimal-add-buf t)
-    (put-decimal-slice-write-buf t)
-    (put-decimal-add-result t)
-    (put-decimal-same-length t)
-    (put-decimal-returns t)
-    (put-decimal-put-decimal-requires t)
-    (put-decimal-cast-buf-2 t)
-    (put-decimal-add-buf-2 t)
-    (put-decimal-slice-write-buf-2 t)
-    (put-decimal-add-result-2 t)
-    (put-decimal-same-length-2 t)
-    (put-decimal-returns-2 t)
++put-decimal-spec = close μ λ t. lts.spec (below t, reads.Post)
+    (starts t)
+    reads.Post
+    (cast-buf t)
+    (add-buf t)
+    (slice-write-buf t)
+    (add-result t)
+    (same-length t)
+    (returns t)
+    (put-decimal-requires t)
+    (cast-buf-2 t)
+    (add-buf-2 t)
+    (slice-write-buf-2 t)
+    (add-result-2 t)
+    (same-length-2 t)
+    (returns-2 t)

@@ -1,15 +1,12 @@
 -- `next_place` meets its contract: each turn passes one byte that is not x, and the search from there is the same.
 use mathlib.Core.Path.{_≡_, refl, sym, _∙_}
 use Prim.Native.Nat.{_-_}
-use native.Mathlib.Omega.{arith}
 use borrow.Author.Needs.{needs}
 use lib.ListN.{length, drop}
 use Rattle.lines.specs.Splits.{next}
 use Rattle.lines.proofs.Splits.{next-here, next-on, next-none}
 use Rattle.lines.proofs.next_place.Statement.{statement}
 use Rattle.lines.proofs.next_place.Tie as tie
-use Rattle.lines.proofs.next_place.Reads as reads
-use Rattle.lines.proofs.next_place.Lts as lts
 
 abbrev Inv-loop : tie.InvT-loop
 Inv-loop s from x at₀ at = next x (drop from s) from ≡ next x (drop at s) at

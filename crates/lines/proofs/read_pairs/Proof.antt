@@ -12,11 +12,6 @@ use Rattle.lines.proofs.Splits.{Part, part}
 use Rattle.lines.proofs.Listing.{Reading, begun, bad-part, good-part, read-all, couple-some, couple-none}
 use Rattle.lines.proofs.read_pairs.Statement.{statement}
 use Rattle.lines.proofs.read_pairs.Tie as tie
-use Rattle.lines.proofs.read_pairs.Reads as reads
-use Rattle.lines.proofs.read_pairs.Lts as lts
-use Rattle.lines.proofs.keep_pair.Reads as keep-pair-reads
-use Rattle.lines.proofs.pair_end.Reads as pair-end-reads
-use Rattle.lines.proofs.read_pair.Reads as read-pair-reads
 
 abbrev Inv-loop : tie.InvT-loop
 Inv-loop s from pairs₀ count₀ at₀ pairs count at = Reading (pairsOf (drop from s)) (parts 44 (drop at s)) count pairs × ((count ≤ at) × (at ≤ length s))

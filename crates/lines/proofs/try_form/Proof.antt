@@ -15,11 +15,6 @@ use Rattle.lines.proofs.Forms.{form-end, form-number, form-unnumbered, 
 use Rattle.lines.proofs.Listing.{stands-within, ends-here, ends-not}
 use Rattle.lines.proofs.try_form.Statement.{statement}
 use Rattle.lines.proofs.try_form.Tie as tie
-use Rattle.lines.proofs.try_form.Reads as reads
-use Rattle.lines.proofs.try_form.Lts as lts
-use Rattle.lines.proofs.has_byte.Reads as has-byte-reads
-use Rattle.lines.proofs.read_number.Reads as read-number-reads
-use Rattle.lines.proofs.with_pairs.Reads as with-pairs-reads
 
 abbrev Inv-loop : tie.InvT-loop
 Inv-loop form k s others numbers₀ got₀ at₀ i₀ numbers got at i =
