@@ -1,0 +1,5 @@
+pub mod Splits
+pub mod Decimal
+pub mod Listing
+pub mod Forms
+pub mod Cases
