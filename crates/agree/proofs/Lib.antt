@@ -1,0 +1,4 @@
+pub mod Safe
+pub mod Link
+pub mod Grow
+pub mod OneTube
