@@ -4,3 +4,4 @@ pub mod Sound
 pub mod Area
 pub mod Codec
 pub mod Cases
+pub mod Scan
