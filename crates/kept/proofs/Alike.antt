@@ -1,9 +1,9 @@
 -- A run on memory in form is the run of the same calls in the room, and no call of it is refused for the form.
 use mathlib.Core.Path.{_≡_, refl, ap, sym, subst, _∙_}
-use mathlib.Core.Bool.{Bool, true, false, not, _&&_}
+use mathlib.Core.Bool.{Bool, true, false, _&&_}
 use mathlib.Core.Logic.{_⊎_, inl, inr}
 use mathlib.Core.List.{List, [], _∷_}
-use Prim.Native.Nat.{ℕ}
+use Prim.Native.Nat.{ℕ, suc}
 use native.Mathlib.Omega.{arith}
 use borrow.Author.Tests.{eqb-true, eqb-false, ne-eqb}
 use lib.Dec.{T, eqb}
@@ -16,7 +16,7 @@ use Rattle.rules.specs.Replies.{rules, areas, reply, after, runs, openReply, op
 use Rattle.rules.proofs.Sound.{and-l, and-r}
 use Rattle.agree.specs.Room.{blank, step, run}
 use Rattle.kept.specs.Kept.{Whole}
-use Rattle.kept.proofs.Ready.{allowed}
+use Rattle.kept.proofs.Ready.{own, owned, allowed}
 use Rattle.kept.proofs.Stay.{refused, obeyed, same-room, stays-whole}
 use Rattle.kept.proofs.Open.{begun}
 
@@ -32,38 +32,22 @@ unfolding reply
 left m c w = gate-passed (counts (m .house)) (long m) (areas (m .house) c) (inForm m) (first (rules (roomOf (m .house)) (read m) c)) (w .counts) (w .long) (w .form)
 
 -- a reply is 0 or a number of the list
-first-in : (p : ℕ → Bool) (l : List (Bool × ℕ)) → T (p 0) → T (all (λ (x : Bool × ℕ). p (x .1)) l) → T (p (first l))
-first-in p [] z t = z
-first-in p (x ∷ l) z t = go (x .0) (first-in p l z (and-r (p (x .1)) (all (λ (x : Bool × ℕ). p (x .1)) l) t))
+first-in : (p : ℕ → Bool) (l : List (Bool × ℕ)) (k : ℕ) → T (all (λ (x : Bool × ℕ). p (x .1)) l) → first l ≡ suc k → T (p (suc k))
+first-in p [] k t e = absurd (omega arith)
+first-in p (x ∷ l) k t e = go (x .0) (first-in p l k (and-r (p (x .1)) (all (λ (x : Bool × ℕ). p (x .1)) l) t)) e
   where
-    go : (b : Bool) → T (p (first l)) → T (p (pick b (first l) (x .1)))
-    go true u = u
-    go false u = and-l (p (x .1)) (all (λ (x : Bool × ℕ). p (x .1)) l) t
+    go : (b : Bool) → (first l ≡ suc k → T (p (suc k))) → pick b (first l) (x .1) ≡ suc k → T (p (suc k))
+    go true r d = r d
+    go false r d = subst (λ (n : ℕ). T (p n)) d (and-l (p (x .1)) (all (λ (x : Bool × ℕ). p (x .1)) l) t)
 
--- the rules reply neither 5 nor 17
-abbrev own : ℕ → Bool
-own k = not (eqb k 5) && not (eqb k 17)
-
-owns : (ρ : Room) (s : State) (c : Call) → T (all (λ (x : Bool × ℕ). own (x .1)) (rules ρ s c))
-owns ρ s (scan a b) = tt
-owns ρ s (c1a r b) = tt
-owns ρ s (c1b r n b) = tt
-owns ρ s (c1c r b v) = tt
-owns ρ s (c2av r n b v) = tt
-owns ρ s (c2b r n b v) = tt
-owns ρ s (hear n k) = tt
-owns ρ s (foreign p) = tt
-owns ρ s (ask r) = tt
-owns ρ s (book p q) = tt
-
-not-rules : (ρ : Room) (s : State) (c : Call) (k : ℕ) → first (rules ρ s c) ≡ k → T (own k)
-not-rules ρ s c k e = subst (λ (n : ℕ). T (own n)) e (first-in own (rules ρ s c) tt (owns ρ s c))
+by-rule : (ρ : Room) (s : State) (c : Call) (k : ℕ) → first (rules ρ s c) ≡ suc k → T (own (suc k))
+by-rule ρ s c k e = first-in own (rules ρ s c) k (owned ρ s c) e
 
 never-17 : (m : Memory) (c : Call) → Whole m → ¬ (reply m c ≡ 17)
 never-17 m c w e = go (areas (m .house) c) (sym (left m c w) ∙ e)
   where
     go : (b : Bool) → ¬ (pick b (first (rules (roomOf (m .house)) (read m) c)) 5 ≡ 17)
-    go true d = not-rules (roomOf (m .house)) (read m) c 17 d
+    go true d = by-rule (roomOf (m .house)) (read m) c 16 d
     go false d = omega arith
 
 -- only the book is lent areas of its own
@@ -86,7 +70,7 @@ only-5 : (m : Memory) (c : Call) → Whole m → reply m c ≡ 5 → (p q : List
 only-5 m c w e = go (areas (m .house) c) refl (sym (left m c w) ∙ e)
   where
     go : (b : Bool) → areas (m .house) c ≡ b → pick b (first (rules (roomOf (m .house)) (read m) c)) 5 ≡ 5 → (p q : List ℕ) × (c ≡ book p q) × ¬ (T (areas (m .house) c))
-    go true a d = absurd (not-rules (roomOf (m .house)) (read m) c 5 d)
+    go true a d = absurd (by-rule (roomOf (m .house)) (read m) c 4 d)
     go false a d = let z = is-book (m .house) c a in (z .0, z .1, z .2, λ t. subst T a t)
 
 -- ---- one call

@@ -3,91 +3,53 @@ use mathlib.Core.Path.{_≡_, refl, ap, sym, subst, _∙_}
 use mathlib.Core.Bool.{Bool, true, false, not, _&&_, _||_}
 use mathlib.Core.Logic.{⊎-elim}
 use mathlib.Core.List.{List, [], _∷_, _++_}
-use Prim.Native.Nat.{ℕ, zero, suc, _+_, _*_, _^_, _≤_, _<_}
+use Prim.Native.Nat.{ℕ, suc, _+_, _*_, _^_, _≤_, _<_}
 use native.Mathlib.Decide.{ℕ-discrete}
 use native.Mathlib.Omega.{arith}
 use borrow.Author.Tests.{eqb-true, lt-ltb}
 use lib.Bits.{bitOr, or-lt}
 use lib.Pow.{pow-lt}
-use lib.Dec.{T, eqb, leb, ltb, leb→le, ltb→lt, eqb→eq, eqb-refl, le→leb, lt→ltb}
+use lib.Dec.{T, eqb, ltb, ltb→lt, lt→ltb}
 use lib.ListN.{length, take}
-use Rattle.rules.specs.Tests.{any, all, allBelow, distinct, eqs, first}
-use Rattle.rules.specs.Words.{Pair, Msg, m1a, m1b, m1c, m2av, m2b, rawOf, samePairs, sameMsg, Cell, Room}
-use Rattle.rules.specs.Lent.{Memory, window, patch, bytesOf, stored, boardOf, encode, cellAt, meaningCell, storedCell, flatten, place, heardAt, setBit, house, marked, roomOf, read, tables, pairsIn, limits, scanned, plainMsg, goodMsg, plainCell, goodCell, cellForm, is1bAt, sameScan, houseForm, boardForm, cellsForm, bitForm, heardForm}
+use Rattle.rules.specs.Tests.{all, allBelow, distinct, eqs, first}
+use Rattle.rules.specs.Words.{Msg, sameMsg, Cell, Room}
+use Rattle.rules.specs.Lent.{Memory, window, patch, bytesOf, stored, boardOf, encode, cellAt, meaningCell, storedCell, flatten, place, heardAt, setBit, house, marked, roomOf, read, tables, plainMsg, goodMsg, plainCell, goodCell, cellForm, is1bAt, sameScan, houseForm, boardForm, cellsForm, bitForm, heardForm}
 use Rattle.rules.specs.Steps.{has, scannedIn, Effect, stays, scans, sends, acts, hears, posts, post, writeCell, write}
-use Rattle.rules.proofs.Sound.{and-l, and-r, or-cases, or-l, or-r, same-msg}
+use Rattle.rules.proofs.Sound.{and-l, and-r, or-cases, or-l, or-r}
 use Rattle.rules.proofs.Area.{patch-same, patch-below, patch-above, cell-put, cell-kept}
-use Rattle.rules.proofs.Codec.{msg-back, msg-long, length-fit, board-grows, At, place-in, order, heard-set, intake-grows, msg-put, msg-kept, any-last, or-no}
+use Rattle.rules.proofs.Codec.{msg-back, msg-long, length-fit, board-grows, At, place-in, order, heard-set, intake-grows, msg-put, msg-kept}
 use Rattle.kept.proofs.Sim.{Sized, Sendable, Ready, length-bytes, length-cell, added, entered, post-by, scan-by, room-for, post-sized, post-room}
-use Rattle.kept.proofs.Ready.{Form, all-below}
+use Rattle.kept.proofs.Lists.{and-two, all-below, below-all, all-last, all-more, distinct-last, eqs-refl, same-flip, scan-flip, is1b-last}
+use Rattle.kept.proofs.Cells.{good-suc, cell-suc}
+use Rattle.kept.proofs.Ready.{Form}
 
--- ---- tests over lists
+-- ---- the parts of the form
 
-pub and-two : (a b : Bool) → T a → T b → T (a && b)
-and-two true b s t = t
-and-two false b s t = absurd s
+record HouseParts (m : Memory) : Type 0 where
+  pub tables : T (eqb (first (tables (roomOf (m .house)))) 0)
+  pub intake : T (distinct sameScan (read m .intake))
+  pub marks : T (ltb (m .house .marks) (2 ^ m .house .nodes))
 
-pub below-all : (p : ℕ → Bool) (n : ℕ) → ((k : ℕ) → k < n → T (p k)) → T (allBelow p n)
-below-all p zero h = tt
-below-all p (suc n) h = and-two (p n) (allBelow p n) (h n (omega arith)) (below-all p n (λ k l. h k (omega arith)))
+house-parts : (m : Memory) → T (houseForm m) → HouseParts m
+unfolding houseForm
+house-parts m t = record { tables = search (and-l, and-r) depth 9; intake = search (and-l, and-r) depth 9; marks = search (and-l, and-r) depth 9 }
 
-pub all-last : {A : Type 0} (p : A → Bool) (l : List A) (x : A) → T (all p l) → T (p x) → T (all p (l ++ (x ∷ [])))
-all-last p [] x s t = and-two (p x) true t tt
-all-last p (y ∷ l) x s t = and-two (p y) (all p (l ++ (x ∷ []))) (and-l (p y) (all p l) s) (all-last p l x (and-r (p y) (all p l) s) t)
+house-whole : (m : Memory) → HouseParts m → T (houseForm m)
+unfolding houseForm
+house-whole m p = search (and-two, p .tables, p .intake, p .marks) depth 9
 
-pub all-more : {A : Type 0} (p q : A → Bool) (l : List A) → ((x : A) → T (p x) → T (q x)) → T (all p l) → T (all q l)
-all-more p q [] h t = tt
-all-more p q (y ∷ l) h t = and-two (q y) (all q l) (h y (and-l (p y) (all p l) t)) (all-more p q l h (and-r (p y) (all p l) t))
+record BoardParts (m : Memory) : Type 0 where
+  pub plain : T (allBelow (plainMsg (m .board)) (m .house .count))
+  pub good : T (all (goodMsg (roomOf (m .house)) (m .house .tubes)) (read m .board))
+  pub differ : T (distinct sameMsg (read m .board))
 
-or-false : (a b : Bool) → a || b ≡ false → (a ≡ false) × (b ≡ false)
-or-false false b e = (refl, e)
-or-false true b e = absurd (let z : _≡_ {A = ℕ} 0 1 = cc in omega arith)
+board-parts : (m : Memory) → T (boardForm m) → BoardParts m
+unfolding boardForm
+board-parts m t = record { plain = search (and-l, and-r) depth 9; good = search (and-l, and-r) depth 9; differ = search (and-l, and-r) depth 9 }
 
--- one that equals none before it, put last
-module _ {A : Type 0} (same : A → A → Bool) (flip : (x y : A) → same x y ≡ false → same y x ≡ false) where
-  any-end : (y x : A) (l : List A) → T (not (any (same y) l)) → same x y ≡ false → T (not (any (same y) (l ++ (x ∷ []))))
-  any-end y x l t e = rw (any-last (same y) l x, flip x y e, or-no (any (same y) l)) t
-
-  pub distinct-last : (l : List A) (x : A) → T (distinct same l) → any (same x) l ≡ false → T (distinct same (l ++ (x ∷ [])))
-  distinct-last [] x t e = tt
-  distinct-last (y ∷ l) x t e =
-      let f = or-false (same x y) (any (same x) l) e in
-      and-two (not (any (same y) (l ++ (x ∷ [])))) (distinct same (l ++ (x ∷ []))) (any-end y x l (and-l (not (any (same y) l)) (distinct same l) t) (f .0))
-      (distinct-last l x (and-r (not (any (same y) l)) (distinct same l) t) (f .1))
-
-eqs-refl : (l : List ℕ) → T (eqs l l)
-eqs-refl [] = tt
-eqs-refl (x ∷ l) = and-two (eqb x x) (eqs l l) (eqb-refl x) (eqs-refl l)
-
-pairs-refl : (l : List Pair) → T (samePairs l l)
-pairs-refl [] = tt
-pairs-refl (p ∷ l) = and-two (eqb (p .0) (p .0) && eqb (p .1) (p .1)) (samePairs l l) (and-two (eqb (p .0) (p .0)) (eqb (p .1) (p .1)) (eqb-refl (p .0)) (eqb-refl (p .1))) (pairs-refl l)
-
-seven : (a b c d e f g h : Bool) → T a → T b → T c → T d → T e → T f → T g → T h → T (a && b && c && d && e && f && g && h)
-seven true true true true true true true true p q r s t u v w = tt
-
-pub same-refl : (x : Msg) → T (sameMsg x x)
-same-refl x = let r = rawOf x in
-    seven (eqb (r .kind) (r .kind)) (eqb (r .row) (r .row)) (eqb (r .bal) (r .bal)) (eqb (r .node) (r .node)) (eqb (r .tube) (r .tube)) (eqb (r .mbal) (r .mbal)) (eqb (r .mval) (r .mval)) (samePairs (r .pairs) (r .pairs))
-    (eqb-refl (r .kind)) (eqb-refl (r .row)) (eqb-refl (r .bal)) (eqb-refl (r .node)) (eqb-refl (r .tube)) (eqb-refl (r .mbal)) (eqb-refl (r .mval)) (pairs-refl (r .pairs))
-
-by-no : (b : Bool) → (T b → ⊥) → b ≡ false
-by-no true h = absurd (h tt)
-by-no false h = refl
-
-same-flip : (x y : Msg) → sameMsg x y ≡ false → sameMsg y x ≡ false
-same-flip x y e = by-no (sameMsg y x) (λ t. subst T e (subst (λ (w : Msg). T (sameMsg x w)) (sym (same-msg y x t)) (same-refl x)))
-
-scan-flip : (p q : ℕ × ℕ) → sameScan p q ≡ false → sameScan q p ≡ false
-scan-flip p q e = by-no (sameScan q p) (λ t.
-    let u = eqb→eq (q .0) (p .0) (and-l (eqb (q .0) (p .0)) (eqb (q .1) (p .1)) t) in
-    let v = eqb→eq (q .1) (p .1) (and-r (eqb (q .0) (p .0)) (eqb (q .1) (p .1)) t) in
-    subst T e (and-two (eqb (p .0) (q .0)) (eqb (p .1) (q .1)) (rw u (eqb-refl (p .0))) (rw v (eqb-refl (p .1)))))
-
-is1b-last : (l : List Msg) (x : Msg) (k : ℕ) → T (is1bAt l k) → T (is1bAt (l ++ (x ∷ [])) k)
-is1b-last [] x k t = absurd t
-is1b-last (y ∷ l) x zero t = t
-is1b-last (y ∷ l) x (suc k) t = is1b-last l x k t
+board-whole : (m : Memory) → BoardParts m → T (boardForm m)
+unfolding boardForm
+board-whole m p = search (and-two, p .plain, p .good, p .differ) depth 9
 
 -- ---- a message is added
 
@@ -117,16 +79,11 @@ module _ (m : Memory) (z : Sized m) (f : Form m) (x : Msg) (s : Sendable m x) (g
     plain-new = rw (patch-same (m .board) (bytesOf (stored x)) (40 * n) 40 (length-bytes x) room′, msg-put (m .board) (stored x) n (msg-long x) room′, msg-back x (s .small)) (eqs-refl (bytesOf (stored x)))
 
     board′ : T (boardForm m′)
-    unfolding boardForm
-    board′ =
-        let p = f .board in
-        let q = and-r (allBelow (plainMsg (m .board)) n) (all (goodMsg (roomOf (m .house)) (m .house .tubes)) B && distinct sameMsg B) p in
-        and-two (allBelow (plainMsg (m′ .board)) (suc n)) (all (goodMsg (roomOf (m .house)) (m .house .tubes)) (read m′ .board) && distinct sameMsg (read m′ .board))
-        (and-two (plainMsg (m′ .board) n) (allBelow (plainMsg (m′ .board)) n) plain-new
-        (below-all (plainMsg (m′ .board)) n (λ k l. plain-old k l (all-below (plainMsg (m .board)) n (and-l (allBelow (plainMsg (m .board)) n) (all (goodMsg (roomOf (m .house)) (m .house .tubes)) B && distinct sameMsg B) p) k l))))
-        (rw grows (and-two (all (goodMsg (roomOf (m .house)) (m .house .tubes)) (B ++ (x ∷ []))) (distinct sameMsg (B ++ (x ∷ [])))
-        (all-last (goodMsg (roomOf (m .house)) (m .house .tubes)) B x (and-l (all (goodMsg (roomOf (m .house)) (m .house .tubes)) B) (distinct sameMsg B) q) g)
-        (distinct-last sameMsg same-flip B x (and-r (all (goodMsg (roomOf (m .house)) (m .house .tubes)) B) (distinct sameMsg B) q) e)))
+    board′ = let p = board-parts m (f .board) in board-whole m′ (record {
+      plain = and-two (plainMsg (m′ .board) n) (allBelow (plainMsg (m′ .board)) n) plain-new (below-all (plainMsg (m′ .board)) n (λ k l. plain-old k l (all-below (plainMsg (m .board)) n (p .plain) k l)));
+      good = rw grows (all-last (goodMsg (roomOf (m .house)) (m .house .tubes)) B x (p .good) g);
+      differ = rw grows (distinct-last sameMsg same-flip B x (p .differ) e);
+    })
 
     heard′ : T (heardForm m′)
     unfolding heardForm
@@ -227,70 +184,32 @@ hear-form m n k z f hn hk t = record {
 pub mark-form : (m : Memory) (n : ℕ) → Form m → n < m .house .nodes → Form (record { house = marked (m .house) n; board = m .board; cells = m .cells; heard = m .heard })
 unfolding houseForm boardForm cellsForm heardForm
 mark-form m n f h =
-    let o = eqb (first (tables (roomOf (m .house)))) 0 in
-    let d = distinct sameScan (read m .intake) in
-    let q = and-r o (d && ltb (m .house .marks) (2 ^ m .house .nodes)) (f .house) in
-    let l = ltb→lt (m .house .marks) (2 ^ m .house .nodes) (and-r d (ltb (m .house .marks) (2 ^ m .house .nodes)) q) in record {
-      house = and-two o (d && ltb (bitOr (m .house .marks) (2 ^ n)) (2 ^ m .house .nodes)) (and-l o (d && ltb (m .house .marks) (2 ^ m .house .nodes)) (f .house))
-          (and-two d (ltb (bitOr (m .house .marks) (2 ^ n)) (2 ^ m .house .nodes)) (and-l d (ltb (m .house .marks) (2 ^ m .house .nodes)) q)
-          (lt→ltb (bitOr (m .house .marks) (2 ^ n)) (2 ^ m .house .nodes) (or-lt (m .house .nodes) (m .house .marks) (2 ^ n) l (pow-lt h))));
+    let p = house-parts m (f .house) in
+    let l = ltb→lt (m .house .marks) (2 ^ m .house .nodes) (p .marks) in record {
+      house = house-whole (record { house = marked (m .house) n; board = m .board; cells = m .cells; heard = m .heard }) (record {
+        tables = p .tables;
+        intake = p .intake;
+        marks = lt→ltb (bitOr (m .house .marks) (2 ^ n)) (2 ^ m .house .nodes) (or-lt (m .house .nodes) (m .house .marks) (2 ^ n) l (pow-lt h));
+      });
       board = f .board;
       cells = f .cells;
       heard = f .heard;
     }
 
-leb-suc : (a k : ℕ) → T (leb a k) → T (leb a (suc k))
-leb-suc a k t = let l = leb→le a k t in le→leb a (suc k) (omega arith)
-
-scanned-suc : (k : ℕ) (x : Msg) → T (scanned k x) → T (scanned (suc k) x)
-unfolding scanned
-scanned-suc k (m1a r b) t = t
-scanned-suc k (m1b r b n x y l) t = and-two (leb y (suc k)) (all (λ (p : Pair). leb (p .0) (suc k)) l) (leb-suc y k (and-l (leb y k) (all (λ (p : Pair). leb (p .0) k) l) t))
-    (all-more (λ (p : Pair). leb (p .0) k) (λ (p : Pair). leb (p .0) (suc k)) l (λ p u. leb-suc (p .0) k u) (and-r (leb y k) (all (λ (p : Pair). leb (p .0) k) l) t))
-scanned-suc k (m1c r b v) t = leb-suc v k t
-scanned-suc k (m2av r b n v) t = leb-suc v k t
-scanned-suc k (m2b r b n v) t = leb-suc v k t
-
-good-suc : (ρ : Room) (k : ℕ) (x : Msg) → T (goodMsg ρ k x) → T (goodMsg ρ (suc k) x)
-unfolding goodMsg
-good-suc ρ k x t = and-two (limits ρ x) (scanned (suc k) x) (and-l (limits ρ x) (scanned k x) t) (scanned-suc k x (and-r (limits ρ x) (scanned k x) t))
-
-cell-suc : (k : ℕ) (c : Cell) → T (goodCell k c) → T (goodCell (suc k) c)
-unfolding goodCell
-cell-suc k c t =
-    let A = leb (c .maxBal) 16 && leb (c .maxVBal) 16 in
-    let D = leb (c .maxVVal) 64 in
-    let P = pairsIn (c .pairs) in
-    let L : ℕ → Bool = λ k. all (λ (p : Pair). leb (p .0) k) (c .pairs) in
-    let u = and-r A ((D && leb (c .maxVVal) k) && (P && L k)) t in
-    let v = and-l (D && leb (c .maxVVal) k) (P && L k) u in
-    let w = and-r (D && leb (c .maxVVal) k) (P && L k) u in
-    and-two A ((D && leb (c .maxVVal) (suc k)) && (P && L (suc k))) (and-l A ((D && leb (c .maxVVal) k) && (P && L k)) t)
-    (and-two (D && leb (c .maxVVal) (suc k)) (P && L (suc k)) (and-two D (leb (c .maxVVal) (suc k)) (and-l D (leb (c .maxVVal) k) v) (leb-suc (c .maxVVal) k (and-r D (leb (c .maxVVal) k) v)))
-    (and-two P (L (suc k)) (and-l P (L k) w) (all-more (λ (p : Pair). leb (p .0) k) (λ (p : Pair). leb (p .0) (suc k)) (c .pairs) (λ p x. leb-suc (p .0) k x) (and-r P (L k) w))))
-
-pub scan-form : (m : Memory) (a b : ℕ) → Sized m → Form m → m .house .tubes < 64 → scannedIn (read m .intake) a b ≡ false
-    → Form (entered m a b)
-unfolding houseForm boardForm cellsForm heardForm
+pub scan-form : (m : Memory) (a b : ℕ) → Sized m → Form m → m .house .tubes < 64 → scannedIn (read m .intake) a b ≡ false → Form (entered m a b)
+unfolding cellsForm heardForm
 scan-form m a b z f h e =
-    let o = eqb (first (tables (roomOf (m .house)))) 0 in
-    let d = distinct sameScan (read m .intake) in
-    let u = ltb (m .house .marks) (2 ^ m .house .nodes) in
+    let p = house-parts m (f .house) in
+    let q = board-parts m (f .board) in
     let t = m .house .tubes in
     let ρ = roomOf (m .house) in
-    let q = and-r o (d && u) (f .house) in
-    let g = intake-grows (m .house .stations) (m .house .serials) t a b (omega (arith, z .stations)) (omega (arith, z .serials)) in
-    let A = allBelow (plainMsg (m .board)) (m .house .count) in
-    let B = read m .board in
-    let p = and-r A (all (goodMsg ρ t) B && distinct sameMsg B) (f .board) in record {
-      house = subst (λ (l : List (ℕ × ℕ)). T (o && (distinct sameScan l && u))) (sym g)
-          (and-two o (distinct sameScan (read m .intake ++ ((a, b) ∷ [])) && u) (and-l o (d && u) (f .house))
-          (and-two (distinct sameScan (read m .intake ++ ((a, b) ∷ []))) u (distinct-last sameScan scan-flip (read m .intake) (a, b) (and-l d u q) e) (and-r d u q)));
-      board = and-two A (all (goodMsg ρ (suc t)) B && distinct sameMsg B) (and-l A (all (goodMsg ρ t) B && distinct sameMsg B) (f .board))
-          (and-two (all (goodMsg ρ (suc t)) B) (distinct sameMsg B) (all-more (goodMsg ρ t) (goodMsg ρ (suc t)) B (λ x w. good-suc ρ t x w) (and-l (all (goodMsg ρ t) B) (distinct sameMsg B) p)) (and-r (all (goodMsg ρ t) B) (distinct sameMsg B) p));
-      cells = below-all (cellForm (suc t) (m .cells)) (m .house .nodes * m .house .rows) (λ k l. let w = all-below (cellForm t (m .cells)) (m .house .nodes * m .house .rows) (f .cells) k l in
-          and-two (plainCell (m .cells) k) (goodCell (suc t) (meaningCell (cellAt (m .cells) k))) (and-l (plainCell (m .cells) k) (goodCell t (meaningCell (cellAt (m .cells) k))) w)
-          (cell-suc t (meaningCell (cellAt (m .cells) k)) (and-r (plainCell (m .cells) k) (goodCell t (meaningCell (cellAt (m .cells) k))) w)));
+    let g = intake-grows (m .house .stations) (m .house .serials) t a b (omega (arith, z .stations)) (omega (arith, z .serials)) in record {
+      house = house-whole (entered m a b) (record { tables = p .tables; intake = rw g (distinct-last sameScan scan-flip (read m .intake) (a, b) (p .intake) e); marks = p .marks });
+      board = board-whole (entered m a b) (record { plain = q .plain; good = all-more (goodMsg ρ t) (goodMsg ρ (suc t)) (read m .board) (good-suc ρ t) (q .good); differ = q .differ });
+      cells = below-all (cellForm (suc t) (m .cells)) (m .house .nodes * m .house .rows) (λ k l.
+          let c = meaningCell (cellAt (m .cells) k) in
+          let w = all-below (cellForm t (m .cells)) (m .house .nodes * m .house .rows) (f .cells) k l in
+          and-two (plainCell (m .cells) k) (goodCell (suc t) c) (and-l (plainCell (m .cells) k) (goodCell t c) w) (cell-suc t c (and-r (plainCell (m .cells) k) (goodCell t c) w)));
       heard = f .heard;
     }
 

@@ -1,3 +1,5 @@
+pub mod Lists
+pub mod Cells
 pub mod Sim
 pub mod Ready
 pub mod Keep

@@ -6,12 +6,12 @@ use Prim.Native.Nat.{ℕ, zero, suc, _+_, _*_, _/_, _%_, _^_, _≤_, _<_}
 use native.Mathlib.Nat.{zero-div}
 use native.Mathlib.Omega.{arith}
 use borrow.Author.Tests.{eq-eqb, ltb-true}
-use lib.Dec.{T, eqb, leb, ltb, leb→le, le→leb, lt→ltb}
+use lib.Dec.{T, eqb, ltb, leb→le, le→leb, lt→ltb}
 use lib.ListN.{length, getD, take, drop, length-append}
 use lib.Pow.{pow-pos}
 use lib.Seq.{drop-append-add, take-at}
 use Rattle.rules.specs.Tests.{pick, allBelow, eqs, fit, many, bit, first}
-use Rattle.rules.specs.Words.{nodesIn, faultyIn, rowsIn, capacityIn, listIn, fresh, Room}
+use Rattle.rules.specs.Words.{fresh, Room}
 use Rattle.rules.specs.Lent.{Memory, cellOf, encode, cellAt, meaningCell, storedCell, place, heardAt, roomOf, inRoom, read, tables, counts, long, plainCell, goodCell, cellForm, houseForm, boardForm, cellsForm, bitForm, heardForm, is1bAt}
 use Rattle.rules.specs.Replies.{roomCounts, roomLong, openReply, houseOf, opened, opening}
 use Rattle.rules.proofs.Sound.{and-l, and-r, clear, Clear}
@@ -20,7 +20,7 @@ use Rattle.rules.proofs.Codec.{length-fit, at-in, place-in}
 use Rattle.agree.specs.Room.{blank}
 use Rattle.kept.specs.Kept.{Begun}
 use Rattle.kept.proofs.Ready.{Form, drop-test}
-use Rattle.kept.proofs.Keep.{and-two, below-all}
+use Rattle.kept.proofs.Lists.{and-two, below-all}
 use Rattle.kept.proofs.Stay.{in-form}
 
 -- ---- lists that opening writes
@@ -113,20 +113,14 @@ module _ (ρ : Room) (m : Memory) (e : openReply ρ m ≡ 0) where
 
   counted : T (counts (houseOf ρ))
   unfolding counts
-  counted =
-      let X = (nodesIn (ρ .nodes) && faultyIn (ρ .faulty)) && (rowsIn (ρ .rows) && capacityIn (ρ .capacity)) in
-      let Y = listIn (length (ρ .quorums)) && listIn (length (ρ .weaks)) in
-      and-two X (Y && leb 0 (ρ .capacity)) (and-l X Y (tests .0)) (and-two Y (leb 0 (ρ .capacity)) (and-r X Y (tests .0)) (le→leb 0 (ρ .capacity) (omega arith)))
+  counted = let t = tests .0 in let z = le→leb 0 (ρ .capacity) (omega arith) in search (and-two, and-l, and-r, t, z) depth 12
 
   lengthy : T (long m′)
   unfolding long
   lengthy =
-      let A = leb (40 * ρ .capacity) (length (m .board)) in
-      let C = leb (36 * (ρ .nodes * ρ .rows)) (length (m .cells)) in
-      let H = leb (128 * ρ .nodes) (length (m .heard)) in
       let t = tests .1 .0 in
-      let c = leb→le (36 * (ρ .nodes * ρ .rows)) (length (m .cells)) (and-l C H (and-r A (C && H) t)) in
-      let h = leb→le (128 * ρ .nodes) (length (m .heard)) (and-r C H (and-r A (C && H) t)) in
+      let c : 36 * (ρ .nodes * ρ .rows) ≤ length (m .cells) = search (leb→le, and-l, and-r) depth 9 in
+      let h : 128 * ρ .nodes ≤ length (m .heard) = search (leb→le, and-l, and-r) depth 9 in
       let lc = length-many (encode (storedCell fresh)) 36 (ρ .nodes * ρ .rows) refl in
       let lh = length-many (0 ∷ []) 1 (128 * ρ .nodes) refl in
       rw (length-patch (m .cells) (many (ρ .nodes * ρ .rows) (encode (storedCell fresh))) 0 (omega arith), length-patch (m .heard) (many (128 * ρ .nodes) (0 ∷ [])) 0 (omega arith)) t

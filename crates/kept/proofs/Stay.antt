@@ -1,15 +1,15 @@
 -- Past the gate once, past it after every call; and what no call changes.
 use mathlib.Core.Path.{_≡_, refl, ap, sym, subst, _∙_}
-use mathlib.Core.Bool.{Bool, true, false, _&&_}
+use mathlib.Core.Bool.{Bool, true, false}
 use mathlib.Core.List.{List}
 use Prim.Native.Nat.{ℕ, suc, _+_, _*_, _/_, _%_, _^_, _≤_}
 use native.Mathlib.Omega.{arith}
 use borrow.Author.Tests.{eqb-true, eqb-false, eq-eqb, ne-eqb}
 use lib.Bits.{bitOr}
-use lib.Dec.{T, eqb, leb, leb→le, le→leb}
+use lib.Dec.{T, eqb, leb→le, le→leb}
 use lib.ListN.{length, getD, set, length-set}
-use Rattle.rules.specs.Words.{nodesIn, faultyIn, rowsIn, capacityIn, listIn, Msg, Room}
-use Rattle.rules.specs.Lent.{Memory, encode, storedCell, place, setBit, house, marked, roomOf, read, Typed, counts, long, houseForm, boardForm, cellsForm, heardForm, inForm}
+use Rattle.rules.specs.Words.{Msg, Room}
+use Rattle.rules.specs.Lent.{Memory, encode, storedCell, place, setBit, house, marked, roomOf, read, Typed, counts, long, inForm}
 use Rattle.rules.specs.declared.House.{House}
 use Rattle.rules.specs.Steps.{Call, Effect, stays, scans, sends, acts, hears, posts, effect, put, post, writeCell, write}
 use Rattle.rules.specs.Replies.{reply, change, after}
@@ -19,7 +19,7 @@ use Rattle.rules.proofs.Codec.{At, place-in}
 use Rattle.kept.specs.Kept.{Whole}
 use Rattle.kept.proofs.Sim.{Sized, Sendable, Ready, length-cell, added, entered, post-by, scan-by, added-long, post-sized, post-room, sim}
 use Rattle.kept.proofs.Ready.{Form, passed, ready}
-use Rattle.kept.proofs.Keep.{and-two}
+use Rattle.kept.proofs.Lists.{and-two}
 use Rattle.kept.proofs.Good.{accepted-form}
 
 -- ---- a call that is refused, and one that is not
@@ -87,11 +87,9 @@ stays-typed m c t = after-by Arrays m c t (λ e. typed-write m (effect (read m) 
 counts-with : (h : House) (n k t : ℕ) (a b : List ℕ) → T (counts h) → n ≤ h .capacity → t ≤ 64 → T (counts (house h n k t a b))
 unfolding counts
 counts-with h n k t a b p q r =
-    let X = (nodesIn (h .nodes) && faultyIn (h .faulty)) && (rowsIn (h .rows) && capacityIn (h .capacity)) in
-    let Y = listIn (h .listed) && listIn (h .backers) in
-    let Z = leb (h .tubes) 64 && leb (h .count) (h .capacity) in
-    and-two X (Y && (leb t 64 && leb n (h .capacity))) (and-l X (Y && Z) p)
-    (and-two Y (leb t 64 && leb n (h .capacity)) (and-l Y Z (and-r X (Y && Z) p)) (and-two (leb t 64) (leb n (h .capacity)) (le→leb t 64 r) (le→leb n (h .capacity) q)))
+    let u = le→leb t 64 r in
+    let v = le→leb n (h .capacity) q in
+    search (and-two, and-l, and-r, p, u, v) depth 12
 
 tubes-in : (h : House) → T (counts h) → h .tubes ≤ 64
 unfolding counts
@@ -147,7 +145,7 @@ write-gated m (posts x n) z r g =
 
 pub in-form : (m : Memory) → Form m → T (inForm m)
 unfolding inForm
-in-form m f = and-two (houseForm m) (boardForm m && (cellsForm m && heardForm m)) (f .house) (and-two (boardForm m) (cellsForm m && heardForm m) (f .board) (and-two (cellsForm m) (heardForm m) (f .cells) (f .heard)))
+in-form m f = search (and-two, f .house, f .board, f .cells, f .heard) depth 9
 
 pub stays-whole : (m : Memory) (c : Call) → Whole m → Whole (after m c)
 stays-whole m c w = after-by Whole m c w (λ e.
