@@ -5,6 +5,7 @@ use Prim.Native.Nat.{ℕ, _*_, _^_}
 use lib.Dec.{leb, ltb}
 use lib.ListN.{getD}
 use Rattle.rules.specs.Tests.{allBelow, bit, count}
+use Rattle.rules.specs.Words.{Room}
 use Rattle.rules.specs.Lent.{sameScan}
 use Rattle.tables.specs.declared.Asked.{Asked}
 use Rattle.tables.specs.declared.Asked.the-variants.{Present, Shares, Strong}
@@ -22,6 +23,10 @@ abbrev pub passes : ℕ → ℕ → Asked → ℕ → Bool
 passes nodes faulty Present q = ltb q (2 ^ nodes)
 passes nodes faulty (Shares p) q = share nodes faulty p q
 passes nodes faulty Strong q = ltb faulty (count (bit q) nodes)
+
+-- a room with these tables; they do not look at its rows and capacity
+abbrev pub withLists : ℕ → ℕ → List ℕ → List ℕ → Room
+withLists nodes faulty quorums weaks = record { nodes = nodes; faulty = faulty; rows = 0; capacity = 0; quorums = quorums; weaks = weaks }
 
 -- the scan numbered i of intake
 abbrev pub scanAt : List ℕ → List ℕ → ℕ → ℕ × ℕ

@@ -2,13 +2,13 @@
 ghost use mathlib.Core.Path.{_≡_};
 ghost use mathlib.Core.Bool.{Bool, true, _&&_};
 ghost use mathlib.Core.List.{[]};
-ghost use Prim.Native.Nat.{_≤_, _<_};
-ghost use lib.Dec.{leb};
-ghost use lib.ListN.{length, take};
-ghost use Rattle.rules.specs.Tests.{all, distinct, bit, count, first};
+ghost use Prim.Native.Nat.{ℕ, _^_, _≤_, _<_};
+ghost use lib.Dec.{leb, ltb};
+ghost use lib.ListN.{length, getD, take};
+ghost use Rattle.rules.specs.Tests.{all, distinct, fit, bit, count, first};
 ghost use Rattle.rules.specs.Words.{nodesIn, faultyIn, rowsIn, capacityIn};
 ghost use Rattle.rules.specs.Lent.{memory, counts, tables, roomOf, intakeOf, sameScan, houseForm};
-ghost use Rattle.tables.specs.Tables.{lengths, passes, share, newScan};
+ghost use Rattle.tables.specs.Tables.{lengths, passes, share, withLists, newScan};
 use rules::House;
 
 // ---- counts and lengths
@@ -140,6 +140,62 @@ pub fn tables_number(h: House) -> u8
         return 3;
     }
     if !all_pass(h.nodes, h.faulty, Asked::Strong, &w, k) {
+        return 4;
+    }
+    0
+}
+
+// ---- lists as opening is handed them
+
+// All sets of a list name present nodes.
+pub fn sets_present(nodes: u8, sets: &[u32]) -> bool
+    requires { ⌜ nodes ≤ 8 ⌝ }
+    ensures { λ r. ⌜ r ≡ all (λ q. ltb q (2 ^ nodes)) (now (sets .entry)) ⌝ }
+{
+    let top = 1u32 << nodes;
+    let mut i: usize = 0;
+    while i < sets.len() {
+        if sets[i] >= top {
+            return false;
+        }
+        i += 1;
+    }
+    true
+}
+
+// The sets of a list as the house record has them, with zeros after them.
+pub fn narrowed(sets: &[u32]) -> [u8; 64]
+    requires { ⌜ length (now sets) ≤ 64 ⌝ }
+    requires { ⌜ ((i : ℕ) → getD (now sets) i 0 < 256) ⌝ }
+    ensures { λ r. ⌜ r ≡ fit 64 (now (sets .entry)) ⌝ }
+{
+    let mut out = [0u8; 64];
+    let mut i: usize = 0;
+    while i < sets.len() {
+        out[i] = sets[i] as u8;
+        i += 1;
+    }
+    out
+}
+
+// What opening says of the tables of a room: 2, 3, 4, or 0 if they pass.
+pub fn lists_number(nodes: u8, faulty: u8, quorums: &[u32], weaks: &[u32]) -> u8
+    requires { ⌜ nodes ≤ 8 ⌝ }
+    requires { ⌜ (length (now quorums) ≤ 64) × (length (now weaks) ≤ 64) ⌝ }
+    ensures { λ r. ⌜ r ≡ first (tables (withLists nodes faulty (now (quorums .entry)) (now (weaks .entry)))) ⌝ }
+{
+    if !sets_present(nodes, quorums) {
+        return 2;
+    }
+    if !sets_present(nodes, weaks) {
+        return 2;
+    }
+    let q = narrowed(quorums);
+    let w = narrowed(weaks);
+    if !all_share(nodes, faulty, &q, quorums.len()) {
+        return 3;
+    }
+    if !all_pass(nodes, faulty, Asked::Strong, &w, weaks.len()) {
         return 4;
     }
     0
