@@ -5,3 +5,4 @@ pub mod Area
 pub mod Codec
 pub mod Cases
 pub mod Scan
+pub mod Each
