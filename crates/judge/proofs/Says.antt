@@ -13,7 +13,10 @@ use Rattle.rules.specs.Lent.{Memory, roomOf, rowIn, read, limits, is1bAt}
 use Rattle.rules.specs.Steps.{has, fits, scannedIn, tubeFor, told, scan, c1a, c1b, c1c, hear}
 use Rattle.rules.specs.Replies.{fields, tubes}
 use Rattle.rules.proofs.Codec.{length-board}
-use Rattle.kept.proofs.Ready.{length-intake}
+use Rattle.rules.proofs.Scan.{holds}
+use Rattle.kept.specs.Kept.{Whole}
+use Rattle.kept.proofs.Ready.{Passed, length-intake}
+use Rattle.judge.proofs.Past.{bounds}
 use Rattle.intake.proofs.Scans.{known-tube, tube-new}
 use Rattle.judge.specs.Judged.{verdict}
 
@@ -24,6 +27,12 @@ tube-there l x y h = go (scannedIn l x y) refl
     go : (b : Bool) → scannedIn l x y ≡ b → leb (tubeFor l x y) 64 ≡ (b || ltb (length l) 64)
     go true e = let k : tubeFor l x y ≤ length l = leb-true (tubeFor l x y) (length l) (sym (known-tube l x y) ∙ e) in le-leb (tubeFor l x y) 64 (omega arith)
     go false e = ap (λ (t : ℕ). leb t 64) (tube-new l x y e)
+
+-- an accepted scan's tube is one
+pub tube-most : (m : Memory) (a b : ℕ) → Whole m → Passed m (scan a b) → tubeFor (read m .intake) a b ≤ 64
+tube-most m a b w p =
+    let l = read m .intake in
+    leb-true (tubeFor l a b) 64 (tube-there l a b (omega (arith, length-intake m, bounds m w .tubes)) ∙ holds (scannedIn l a b || ltb (length l) 64) (p .needs .0))
 
 module _ (m : Memory) where
   pub says-1a : (r b : ℕ) (x y : Bool) → limits (roomOf (m .house)) (m1a r b) ≡ x → fits (roomOf (m .house)) (read m) (m1a r b) ≡ y
