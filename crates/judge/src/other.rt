@@ -37,10 +37,7 @@ pub fn judge_scan(
     if !crate::limits::scan_in(station, serial) {
         return 6;
     }
-    let a = h.stations;
-    let b = h.serials;
-    let n = h.tubes as usize;
-    let t = intake::tube_for(&a, &b, n, station as u8, serial);
+    let t = intake::tube_of(h, station as u8, serial);
     if t > Tube::MOST as usize {
         return 16;
     }

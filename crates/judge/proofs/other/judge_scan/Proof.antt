@@ -30,52 +30,30 @@ returns c =
     let b = c .before .before .before .before .before in
     says-scan (lent b) (b .args .station) (b .args .serial) false _ (bounds (lent b) (b .pre) .tubes) (sym (c .before .scan-in .ensures) ∙ not-true _ (c .if1 .taken)) refl
 
-cast-n : tie.Need-cast-n
-cast-n c = search needs
+cast-tube-of : tie.Need-cast-tube-of
+cast-tube-of c = omega (arith, scan-says (start c .args .station) (start c .args .serial) (inside c))
 
-slice-aggregate-tube-for : tie.Need-slice-aggregate-tube-for
-slice-aggregate-tube-for c = search needs
-
-slice-aggregate-tube-for-2 : tie.Need-slice-aggregate-tube-for-2
-slice-aggregate-tube-for-2 c = search needs
-
-cast-tube-for : tie.Need-cast-tube-for
-cast-tube-for c = let e = c .before .before .before .before .before in omega (arith, scan-says (start e .args .station) (start e .args .serial) (inside e))
-
-tube-for-requires : tie.Need-tube-for-requires
-tube-for-requires c κs =
-    let b = start (c .before .before .before .before .before) in
-    let t = bounds (lent b) (b .pre) .tubes in
-    (t, (omega (arith, t, b .pre .typed .stations), omega (arith, t, b .pre .typed .serials)))
+tube-of-requires : tie.Need-tube-of-requires
+tube-of-requires c κs = let b = start c in bounds (lent b) (b .pre) .tubes
 
 cast-if2 : tie.Need-cast-if2
 cast-if2 c = search needs
 
 returns-2 : tie.Need-returns-2
 returns-2 c =
-    let e = c .before .before .before .before .before .before .before in
+    let e = c .before .before in
     let b = start e in
     says-scan (lent b) (b .args .station) (b .args .serial) true false (bounds (lent b) (b .pre) .tubes) (inside e)
-    (ap (λ (t : ℕ). leb t 64) (sym (c .before .tube-for .ensures)) ∙ lt-leb _ 64 (c .if2 .taken))
+    (ap (λ (t : ℕ). leb t 64) (sym (c .before .tube-of .ensures)) ∙ lt-leb _ 64 (c .if2 .taken))
 
 returns-3 : tie.Need-returns-3
 returns-3 c =
-    let e = c .before .before .before .before .before .before .before in
+    let e = c .before .before in
     let b = start e in
     says-scan (lent b) (b .args .station) (b .args .serial) true true (bounds (lent b) (b .pre) .tubes) (inside e)
-    (ap (λ (t : ℕ). leb t 64) (sym (c .before .tube-for .ensures)) ∙ le-leb _ 64 (c .if2 .left))
+    (ap (λ (t : ℕ). leb t 64) (sym (c .before .tube-of .ensures)) ∙ le-leb _ 64 (c .if2 .left))
 
 pub judge-scan-spec : {M : Type 1} → statement M
 judge-scan-spec =
     tie.close
-    (tie.spec
-    scan-in-requires
-    returns
-    cast-n
-    slice-aggregate-tube-for
-    slice-aggregate-tube-for-2
-    cast-tube-for
-    tube-for-requires
-    cast-if2
-    returns-2
-    returns-3)
+    (tie.spec scan-in-requires returns cast-tube-of tube-of-requires cast-if2 returns-2 returns-3)
