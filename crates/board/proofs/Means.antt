@@ -7,7 +7,7 @@ use Prim.Native.Nat.{ℕ, zero, suc, _+_, _≤_, _<_}
 use native.Mathlib.Numerals.{add-one}
 use native.Mathlib.Decide.{ℕ-discrete}
 use native.Mathlib.Omega.{arith}
-use borrow.Author.Tests.{eqb-true, eq-eqb, ne-eqb}
+use borrow.Author.Tests.{eq-eqb, ne-eqb}
 use lib.Dec.{eqb}
 use lib.ListN.{length}
 use Rattle.rules.specs.Tests.{pick, any}
@@ -15,7 +15,7 @@ use Rattle.rules.specs.Words.{heightOf, Msg, m1a, m1b, m1c, m2av, m2b, kindOf}
 use Rattle.rules.specs.Lent.{pairsOf, meaning, msgAt, boardOf, is1b, is1bAt}
 use Rattle.rules.specs.declared.Message.{Message}
 use Rattle.rules.proofs.Codec.{length-board, any-last}
-use Rattle.rules.proofs.Scan.{both-ways}
+use Rattle.rules.proofs.Scan.{turn}
 use Rattle.board.specs.Asked.{isVote}
 
 abbrev kindBy : Bool → Bool → Bool → Bool → ℕ
@@ -56,6 +56,18 @@ kind-out m (inl e) = kind-by m ∙ rw e
 kind-out m (inr h) = kind-by m
     ∙ rw (ne-eqb (m .kind) 1 (λ e. omega arith), ne-eqb (m .kind) 2 (λ e. omega arith), ne-eqb (m .kind) 3 (λ e. omega arith), ne-eqb (m .kind) 4 (λ e. omega arith))
 
+-- a message of kind 2 is the 1b of its bytes
+pub means-1b : (m : Message) → kindOf (meaning m) ≡ 2 → meaning m ≡ m1b (m .row) (m .bal) (m .node) (heightOf (m .mbal)) (m .mval) (pairsOf (m .count) (m .pairs))
+unfolding meaning
+means-1b m e = go (eqb (m .kind) 1) (eqb (m .kind) 2) (eqb (m .kind) 3) (eqb (m .kind) 4) (sym (kind-by m) ∙ e)
+  where
+    go : (a b c d : Bool) → kindBy a b c d ≡ 2 → meant m a b c d ≡ m1b (m .row) (m .bal) (m .node) (heightOf (m .mbal)) (m .mval) (pairsOf (m .count) (m .pairs))
+    go true b c d e = absurd (omega arith)
+    go false true c d e = refl
+    go false false true d e = absurd (omega arith)
+    go false false false true e = absurd (omega arith)
+    go false false false false e = absurd (omega arith)
+
 -- ---- the message at a number
 
 pub is1b-kind : (x : Msg) → is1b x ≡ eqb (kindOf x) 2
@@ -94,9 +106,6 @@ move true true v = sym (and-true v)
 move true false true = refl
 move true false false = refl
 move false n v = refl
-
-turn : (a b : ℕ) → eqb a b ≡ eqb b a
-turn a b = both-ways (eqb a b) (eqb b a) (λ e. eq-eqb b a (sym (eqb-true a b e))) (λ e. eq-eqb a b (sym (eqb-true b a e)))
 
 -- a vote, by the bytes that it reads
 abbrev voteBy : Bool → Bool → Bool → Bool → Bool → Bool
