@@ -19,9 +19,9 @@ use Rattle.judge.specs.Judged.{verdict}
 use Rattle.vote.specs.Begun.{begun}
 
 -- both lists of the house record are within their limits
-pub listed-in : (m : Memory) → Whole m → m .house .listed ≤ 64
+pub lists-in : (m : Memory) → Whole m → (m .house .listed ≤ 64) × (m .house .backers ≤ 64)
 unfolding counts
-listed-in m w = let t = w .counts in search (leb→le, and-l, and-r) depth 9
+lists-in m w = let t = w .counts in (search (leb→le, and-l, and-r) depth 9, search (leb→le, and-l, and-r) depth 9)
 
 abbrev three : Bool → Bool → Bool → ℕ → ℕ
 three a b c k = pick a (pick b (pick c k 8) 7) 6

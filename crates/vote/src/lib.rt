@@ -1,7 +1,7 @@
 // The steps 2av and 2b of a node: what is answered, and what an accepted one does.
 ghost use mathlib.Core.Path.{_≡_};
-ghost use Rattle.rules.specs.Lent.{memory, roomOf, read};
-ghost use Rattle.rules.specs.Steps.{c2av, c2b, known};
+ghost use Rattle.rules.specs.Lent.{memory};
+ghost use Rattle.rules.specs.Steps.{c2av, c2b};
 ghost use Rattle.rules.specs.Replies.{reply, after};
 ghost use Rattle.kept.specs.Kept.{Whole};
 ghost use Rattle.judge.specs.Judged.{verdict};
@@ -71,8 +71,7 @@ pub fn judge_2b(
     0
 }
 
-// What a 2av is answered, given whether the tube is known safe.
-pub fn judge_2av_with(
+pub fn judge_2av(
     h: House,
     board: &[u8],
     cells: &[u8],
@@ -81,10 +80,8 @@ pub fn judge_2av_with(
     node: u32,
     ballot: u32,
     tube: u32,
-    safe: bool,
 ) -> u8
     requires { ⌜ Whole (memory h (now board) (now cells) (now heard)) ⌝ }
-    requires { ⌜ safe ≡ known (roomOf h) (read (memory h (now board) (now cells) (now heard))) row node ballot tube ⌝ }
     ensures { λ r. ⌜ r ≡ verdict (memory h (now (board .entry)) (now (cells .entry)) (now (heard .entry))) (c2av row node ballot tube) ⌝ }
 {
     let early = begin(h, board, cells, heard, row, node, ballot, tube);
@@ -105,7 +102,7 @@ pub fn judge_2av_with(
     if !pairs::all_below(pairs, c.count, b) {
         return 10;
     }
-    if !safe {
+    if !safe::known_safe(h, board, heard, r, n, b, v) {
         return 11;
     }
     if pairs::others(pairs, c.count, v) >= 16 {

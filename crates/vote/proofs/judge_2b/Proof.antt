@@ -12,7 +12,7 @@ use Rattle.rules.proofs.Codec.{At}
 use Rattle.board.proofs.Bytes.{own-stored}
 use Rattle.judge.proofs.Past.{bounds, plain, fits-means}
 use Rattle.vote.specs.Begun.{begun}
-use Rattle.vote.proofs.Says.{listed-in, begun-inside, early-2b, says-2b}
+use Rattle.vote.proofs.Says.{lists-in, begun-inside, early-2b, says-2b}
 use Rattle.vote.proofs.judge_2b.Statement.{statement}
 use Rattle.vote.proofs.judge_2b.Tie as tie
 
@@ -60,7 +60,7 @@ covered-requires : tie.Need-covered-requires
 covered-requires c κs =
     let s = start c in
     let p = plain (lent s) (s .pre) in
-    ((bounds (lent s) (s .pre) .nodes, listed-in (lent s) (s .pre)), (p .count, (p .long, omega arith)))
+    ((bounds (lent s) (s .pre) .nodes, lists-in (lent s) (s .pre) .0), (p .count, (p .long, omega arith)))
 
 returns-2 : tie.Need-returns-2
 returns-2 c =
