@@ -9,3 +9,4 @@ pub mod Outcome
 pub mod Book
 pub mod OneLine
 pub mod Totals
+pub mod Scan
