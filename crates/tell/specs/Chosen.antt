@@ -1,21 +1,21 @@
 -- A row's outcome as the code tells it.
 use mathlib.Core.Path.{_≡_}
 use mathlib.Core.Bool.{Bool, true, false}
-use mathlib.Core.List.{List, []}
+use mathlib.Core.List.{List}
 use Prim.Native.Nat.{ℕ, _≤_, _<_}
 use lib.ListN.{getD}
 use Rattle.rules.specs.Tests.{any, anyBelow, allIn, bit}
-use Rattle.rules.specs.Words.{State}
-use Rattle.rules.specs.Lent.{memory, read}
+use Rattle.rules.specs.Words.{Room, State}
+use Rattle.rules.specs.Lent.{memory, roomOf, read}
 use Rattle.rules.specs.Book.{Outcome, unchosen, agreed, split}
 use Rattle.rules.specs.declared.House.{House}
 use Rattle.tell.specs.declared.RowTube.{RowTube}
 use Rattle.tell.specs.declared.RowTube.the-variants.{Unchosen, Agreed, Split}
 use Rattle.tell.specs.Votes.{slot}
 
--- what a house record and a board tell of the room: its cells and heard bits are not looked at
-abbrev pub seen : House → List ℕ → State
-seen h s = read (memory h s [] [])
+-- so it is in the room of a house record and a board, whatever the cells and the heard bits are
+abbrev pub Seen : House → List ℕ → (Room → State → Type 0) → Type 0
+Seen h s P = (cells heard : List ℕ) → P (roomOf h) (read (memory h s cells heard))
 
 abbrev pub outcomeOf : RowTube → Outcome
 outcomeOf Unchosen = unchosen

@@ -2,11 +2,11 @@
 ghost use mathlib.Core.Path.{_≡_};
 ghost use mathlib.Core.Bool.{false};
 ghost use Prim.Native.Nat.{_≤_, _<_};
-ghost use lib.ListN.{length, take};
-ghost use Rattle.rules.specs.Lent.{msgAt, boardOf, roomOf};
+ghost use lib.ListN.{take};
+ghost use Rattle.rules.specs.Lent.{msgAt, boardOf};
 ghost use Rattle.rules.specs.Book.{outcome};
 ghost use Rattle.tell.specs.Votes.{Countable, Counted, withVote, voted, Within};
-ghost use Rattle.tell.specs.Chosen.{seen, outcomeOf, filled, carried, Next};
+ghost use Rattle.tell.specs.Chosen.{Seen, outcomeOf, filled, carried, Next};
 
 // The vote of a node for a tube in a ballot.
 fn put_vote(votes: &mut [u8; 1024], ballot: u8, tube: u8, node: u8)
@@ -56,8 +56,8 @@ pub enum RowTube {
 }
 
 // Whether some quorum is full of these votes; no votes fill none.
-fn full_of(quorums: &[u8], n: usize, nodes: u8, have: u8) -> bool
-    requires { ⌜ n ≤ length (now quorums) ⌝ }
+fn full_of(quorums: &[u8; 64], n: usize, nodes: u8, have: u8) -> bool
+    requires { ⌜ n ≤ 64 ⌝ }
     requires { ⌜ nodes ≤ 8 ⌝ }
     requires { ⌜ filled nodes (take n (now quorums)) 0 ≡ false ⌝ }
     ensures { λ r. ⌜ r ≡ filled nodes (take n (now (quorums .entry))) have ⌝ }
@@ -69,8 +69,8 @@ fn full_of(quorums: &[u8], n: usize, nodes: u8, have: u8) -> bool
 }
 
 // Whether some quorum is full of a tube's votes in one ballot.
-fn tube_chosen(quorums: &[u8], n: usize, nodes: u8, votes: &[u8; 1024], tube: u8) -> bool
-    requires { ⌜ n ≤ length (now quorums) ⌝ }
+fn tube_chosen(quorums: &[u8; 64], n: usize, nodes: u8, votes: &[u8; 1024], tube: u8) -> bool
+    requires { ⌜ n ≤ 64 ⌝ }
     requires { ⌜ nodes ≤ 8 ⌝ }
     requires { ⌜ filled nodes (take n (now quorums)) 0 ≡ false ⌝ }
     requires { ⌜ (1 ≤ tube) × (tube ≤ 64) ⌝ }
@@ -110,7 +110,7 @@ fn next_chosen(h: rules::House, votes: &[u8; 1024], start: u8) -> u8
 // What a row came to.
 pub fn row_outcome(h: rules::House, board: &[u8], row: u8) -> RowTube
     requires { ⌜ Countable h (now board) ⌝ }
-    ensures { λ r. ⌜ outcomeOf r ≡ outcome (roomOf h) (seen h (now (board .entry))) row ⌝ }
+    ensures { λ r. ⌜ Seen h (now (board .entry)) (λ ρ s. outcomeOf r ≡ outcome ρ s row) ⌝ }
 {
     let votes = row_votes(h, board, row);
     let v = next_chosen(h, &votes, 1);

@@ -6,9 +6,9 @@ use Rattle.tell.proofs.full_of.Tie as tie
 
 returns : tie.Need-returns
 returns c =
-    let a = c .before .before .args in
+    let a = c .before .args in
     let e : a .have ≡ 0 = c .if1 .taken in
-    sym (rw e (c .before .before .pre .1 .1))
+    sym (rw e (c .before .pre .1 .1))
 
 some-full-requires : tie.Need-some-full-requires
 some-full-requires c κs = search needs

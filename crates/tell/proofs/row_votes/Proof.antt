@@ -40,9 +40,13 @@ loop-again c =
     let a = l .before .before .before in
     let s = a .args .board .now in
     let k = l .loop .k in
-    let e = c .add-vote .ensures in
-    (omega arith, (ap length e ∙ length-voted (l .loop .votes) (a .args .row) (msgAt s k) ∙ l .loop .inv .1 .0,
-    rw e (counted-next (a .args .h) s (l .loop .votes) (a .args .row) k (a .pre) (omega arith) (l .loop .inv .1 .0) (l .loop .inv .1 .1))))
+    let e = c .add-vote .ensures in (
+      omega arith,
+      (
+        ap length e ∙ length-voted (l .loop .votes) (a .args .row) (msgAt s k) ∙ l .loop .inv .1 .0,
+        rw e (counted-next (a .args .h) s (l .loop .votes) (a .args .row) k (a .pre) (omega arith) (l .loop .inv .1 .0) (l .loop .inv .1 .1)),
+      ),
+    )
 
 returns : tie.Need-returns Inv-loop μ-loop
 returns c =

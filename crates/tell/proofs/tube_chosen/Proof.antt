@@ -37,7 +37,11 @@ full-of-requires : tie.Need-full-of-requires Inv-loop μ-loop
 full-of-requires c κs = search needs
 
 returns : tie.Need-returns Inv-loop μ-loop
-returns c = ?
+unfolding carried
+returns c =
+    let l = c .before .before .before .before in
+    let a = l .before .args in
+    sym (below-here (λ i. filled (a .nodes) (take (a .n) (a .quorums .now)) (getD (a .votes .now) (slot i (a .tube)) 0)) (l .loop .b) 16 (omega arith) (sym (c .before .full-of .ensures) ∙ c .if1 .taken))
 
 add-b : tie.Need-add-b Inv-loop μ-loop
 add-b c = search needs
@@ -46,10 +50,16 @@ loop-less : tie.Need-loop-less Inv-loop μ-loop
 loop-less c = search needs
 
 loop-again : tie.Need-loop-again Inv-loop μ-loop
-loop-again c = ?
+loop-again c =
+    let l = c .before .before .before .before in
+    let a = l .before .args in
+    (omega arith, below-more (λ i. filled (a .nodes) (take (a .n) (a .quorums .now)) (getD (a .votes .now) (slot i (a .tube)) 0)) (l .loop .b) (l .loop .inv .1) (sym (c .before .full-of .ensures) ∙ c .if1 .left))
 
 returns-2 : tie.Need-returns-2 Inv-loop μ-loop
-returns-2 c = ?
+unfolding carried
+returns-2 c =
+    let e : c .before .loop .b ≡ 16 = omega arith in
+    sym (rw e at (c .before .loop .inv .1))
 
 pub tube-chosen-spec : {M : Type 1} → statement M
 tube-chosen-spec =
