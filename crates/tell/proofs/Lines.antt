@@ -17,11 +17,11 @@ use Rattle.rules.specs.Book.{Outcome, unchosen, agreed, split, outcome, tubeOf,
 use Rattle.rules.specs.Replies.{stopOf}
 use Rattle.rules.proofs.Lists.{keep-next, any-next, map-next, length-keep, length-up, leading-is}
 use Rattle.rules.proofs.Scan.{or-swap}
-use Rattle.rules.proofs.Book.{before, entry-next, stops-ended}
+use Rattle.rules.proofs.Book.{reaches, before, entry-next, stops-ended}
 use Rattle.rules.specs.declared.Stop.{Stop}
 use Rattle.rules.specs.declared.Stop.the-variants.{RowsEnded}
 use Rattle.tell.specs.declared.Rows.{Rows}
-use Rattle.tell.specs.Lines.{Reached, standing, lineOf, lines, left, Put}
+use Rattle.tell.specs.Lines.{Reached, standing, lineOf, lines, left, Put, Left, Written}
 
 -- ---- an area written from its front
 
@@ -145,3 +145,19 @@ unfolding left waitingOf stands
 left-waiting ρ s r k f e =
     ap (λ (p : ℕ → Bool). keep (λ t. not (p t)) (upTo k)) (fun-ext (λ t. standing-before ρ s (r .tubes) (r .reach) t (f .tubes) ∙ ap (λ (n : ℕ). before ρ s n t) (f .reach)))
     ∙ ap (λ (n : ℕ). keep (λ t. not (before ρ s (reach ρ s) t)) (upTo n)) (sym e)
+
+pub reach-most : (ρ : Room) (s : State) (r : Rows) → Reached ρ s r → r .reach ≤ ρ .rows
+reach-most ρ s r f = omega (arith, f .reach, reaches ρ s)
+
+-- the book is written, by what its parts wrote
+pub written : (ρ : Room) (s : State) (r : Rows) (k : ℕ) (p q p′ q′ : List ℕ) (w : ℕ) → Reached ρ s r → length (s .intake) ≡ k
+    → p′ ≡ patch p 0 (lines (r .tubes) (r .reach)) → Left (r .tubes) (r .reach) k q q′ w → Written ρ s p q p′ q′ (record { rows = r .reach; waiting = w; stop = r .stop })
+written ρ s r k p q p′ q′ w f e d l =
+    let b = lines-book ρ s r f in
+    let v = left-waiting ρ s r k f e in record {
+      rows = d ∙ ap (patch p 0) b;
+      waiting = l .area ∙ ap (patch q 0) v;
+      entered = sym (length-lines (r .tubes) (r .reach)) ∙ ap length b;
+      left = l .number ∙ ap length v;
+      stop = f .stop;
+    }

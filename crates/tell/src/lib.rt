@@ -249,12 +249,7 @@ pub struct Figures {
 }
 
 // The book into one lent area and the waiting tubes into the other.
-pub fn write_book(
-    h: rules::House,
-    board: &[u8],
-    rows: &mut [u8],
-    waiting: &mut [u8],
-) -> Figures
+pub fn write_book(h: rules::House, board: &[u8], rows: &mut [u8], waiting: &mut [u8]) -> Figures
     requires { ⌜ Countable h (now board) ⌝ }
     requires { ⌜ (h .rows ≤ length (now rows)) × (64 ≤ length (now waiting)) ⌝ }
     ensures { λ r. ⌜ Seen h (now (board .entry)) (λ ρ s. Written ρ s (now (rows .entry)) (now (waiting .entry)) (now (rows .exit)) (now (waiting .exit)) r) ⌝ }

@@ -69,9 +69,13 @@ loop-again : tie.Need-loop-again Inv-loop μ-loop
 loop-again c =
     let r = c .before .before .before in
     let l = r .before .before .before in
-    let a = l .before .before in
-    (omega arith, (length-set (l .loop .tubes) (l .loop .k) _ ∙ l .loop .inv .1 .0,
-    λ cells heard. so-more _ _ (l .loop .tubes) (l .loop .k) _ (l .loop .inv .1 .1 cells heard) (omega arith) (sym (r .row-outcome .ensures cells heard) ∙ ap outcomeOf (c .before .o .given .1))))
+    let a = l .before .before in (
+      omega arith,
+      (
+        length-set (l .loop .tubes) (l .loop .k) _ ∙ l .loop .inv .1 .0,
+        λ cells heard. so-more _ _ (l .loop .tubes) (l .loop .k) _ (l .loop .inv .1 .1 cells heard) (omega arith) (sym (r .row-outcome .ensures cells heard) ∙ ap outcomeOf (c .before .o .given .1)),
+      ),
+    )
 
 returns-2 : tie.Need-returns-2 Inv-loop μ-loop
 returns-2 c cells heard =

@@ -1,46 +1,60 @@
+-- The lines: those of the rows passed are written.
+use Prim.Native.Nat.{ℕ, _≤_, _-_}
+use mathlib.Core.Path.{_≡_, refl, ap, _∙_}
+use mathlib.Core.List.{List}
+use native.Mathlib.Omega.{arith}
+use borrow.Author.Needs.{needs}
+use lib.ListN.{length, set, length-set}
+use Rattle.rules.specs.Lent.{patch}
+use Rattle.tell.specs.Lines.{lineOf, lines}
+use Rattle.tell.proofs.Lines.{lines-next}
 use Rattle.tell.proofs.write_lines.Statement.{statement}
 use Rattle.tell.proofs.write_lines.Tie as tie
-use Rattle.tell.proofs.write_lines.Reads as reads
-use Rattle.tell.proofs.write_lines.Lts as lts
-use Rattle.tell.proofs.line.Reads as line-reads
 
 abbrev Inv-loop : tie.InvT-loop
-Inv-loop tubes n out₀ i₀ out i = ?
+Inv-loop tubes n out₀ i₀ out i = (i ≤ n) × ((length out ≡ length out₀) × (out ≡ patch out₀ 0 (lines tubes i)))
 
 abbrev μ-loop : tie.MeasureT-loop
-μ-loop tubes n out₀ i₀ out i = ?
+μ-loop tubes n out₀ i₀ out i = n - i
 
--- src/lib.rt:209:5
 loop-holds : tie.Need-loop-holds Inv-loop μ-loop
-loop-holds c = ?
+unfolding lines
+loop-holds c = (search needs, (refl, refl))
 
--- src/lib.rt:210:18
 line-requires : tie.Need-line-requires Inv-loop μ-loop
-line-requires c κs = ?
+line-requires c κs = search needs
 
--- src/lib.rt:210:9
 slice-write-out : tie.Need-slice-write-out Inv-loop μ-loop
-slice-write-out c = ?
+slice-write-out c = search needs
 
--- src/lib.rt:211:9
 add-i : tie.Need-add-i Inv-loop μ-loop
-add-i c = ?
+add-i c = search needs
 
--- src/lib.rt:209:5
 loop-less : tie.Need-loop-less Inv-loop μ-loop
-loop-less c = ?
+loop-less c = search needs
 
--- src/lib.rt:209:5
 loop-again : tie.Need-loop-again Inv-loop μ-loop
-loop-again c = ?
+loop-again c =
+    let l = c .before .before in
+    let a = l .before .before .args in (
+      omega arith,
+      (
+        length-set (l .loop .out) (l .loop .i) _ ∙ l .loop .inv .1 .0,
+        ap (λ (v : ℕ). set (l .loop .out) (l .loop .i) v) (c .line .ensures)
+            ∙ ap (λ (t : List ℕ). set t (l .loop .i) (lineOf (a .tubes .now) (l .loop .i))) (l .loop .inv .1 .1)
+            ∙ lines-next (a .tubes .now) (a .out .now) (l .loop .i) (omega arith),
+      ),
+    )
 
--- src/lib.rt:204:1
 same-length : tie.Need-same-length Inv-loop μ-loop
-same-length c = ?
+same-length c = search needs
 
--- src/lib.rt:204:1
 returns : tie.Need-returns Inv-loop μ-loop
-returns c = ?
+returns c =
+    let l = c .before in
+    let a = l .before .before .args in
+    let e : l .loop .i ≡ a .n = omega arith in
+    rw e at (l .loop .inv .1 .1)
 
 pub write-lines-spec : {M : Type 1} → statement M
 write-lines-spec =
