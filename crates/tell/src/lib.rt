@@ -3,13 +3,16 @@ ghost use mathlib.Core.Path.{_≡_};
 ghost use mathlib.Core.Bool.{false};
 ghost use Prim.Native.Nat.{_≤_, _<_};
 ghost use lib.ListN.{length, take};
-ghost use Rattle.rules.specs.Tests.{pick};
-ghost use Rattle.rules.specs.Lent.{patch, msgAt, boardOf};
+ghost use Rattle.rules.specs.Tests.{pick, first};
+ghost use Rattle.rules.specs.Lent.{memory, patch, msgAt, boardOf, roomOf, rowIn, read};
+ghost use Rattle.rules.specs.Steps.{ask, book};
 ghost use Rattle.rules.specs.Book.{outcome, isSplit};
-ghost use Rattle.rules.specs.Replies.{stopOf};
+ghost use Rattle.rules.specs.Replies.{rules, gate, stopOf, answerOf, Did};
+ghost use Rattle.kept.specs.Kept.{Whole};
 ghost use Rattle.tell.specs.Votes.{Countable, Counted, withVote, voted, Within};
 ghost use Rattle.tell.specs.Chosen.{Seen, outcomeOf, filled, carried, Next};
 ghost use Rattle.tell.specs.Lines.{Reached, standing, lineOf, lines, Put, Left, Written};
+ghost use Rattle.tell.specs.Past.{past, told, BookDid};
 
 // The vote of a node for a tube in a ballot.
 fn put_vote(votes: &mut [u8; 1024], ballot: u8, tube: u8, node: u8)
@@ -263,6 +266,100 @@ pub fn write_book(h: rules::House, board: &[u8], rows: &mut [u8], waiting: &mut 
     Figures {
         rows: b.reach,
         waiting: w,
+        stop: stop,
+    }
+}
+
+// Whether a number of any size is a row of the room.
+fn row_in(h: rules::House, row: u32) -> bool
+    ensures { λ r. ⌜ r ≡ rowIn (roomOf h) row ⌝ }
+{
+    (1 <= row) & (row <= h.rows as u32)
+}
+
+// The number that a split row is refused by.
+fn split_number(o: RowTube) -> u8
+    ensures { λ r. ⌜ r ≡ pick (isSplit (outcomeOf o)) 18 0 ⌝ }
+{
+    match o {
+        RowTube::Unchosen => 0,
+        RowTube::Agreed(_) => 0,
+        RowTube::Split => 18,
+    }
+}
+
+// What an asked row is told as: its tube, 0 for none, or 18.
+fn told_as(o: RowTube) -> rules::Reply
+    ensures { λ r. ⌜ answerOf r ≡ told (outcomeOf o) ⌝ }
+{
+    match o {
+        RowTube::Unchosen => rules::Reply::Told(rules::Tube(0)),
+        RowTube::Agreed(t) => rules::Reply::Told(t),
+        RowTube::Split => rules::Reply::Refused(rules::Refusal::SplitRow),
+    }
+}
+
+// The number that asking a row is answered once memory passed the gate: 6 for no row of the room, 18 for a split.
+pub fn judge_ask(h: rules::House, board: &[u8], cells: &[u8], heard: &[u8], row: u32) -> u8
+    requires { ⌜ Whole (memory h (now board) (now cells) (now heard)) ⌝ }
+    ensures { λ r. ⌜ r ≡ first (rules (roomOf h) (read (memory h (now (board .entry)) (now (cells .entry)) (now (heard .entry)))) (ask row)) ⌝ }
+{
+    if !row_in(h, row) {
+        return 6;
+    }
+    split_number(row_outcome(h, board, row as u8))
+}
+
+// What asking a row is answered once memory passed the gate.
+fn ask_past(h: rules::House, board: &[u8], row: u32) -> rules::Reply
+    requires { ⌜ Countable h (now board) ⌝ }
+    ensures { λ r. ⌜ Seen h (now (board .entry)) (λ ρ s. answerOf r ≡ past ρ s (ask row)) ⌝ }
+{
+    if !row_in(h, row) {
+        return rules::Reply::Refused(rules::Refusal::OutsideLimits);
+    }
+    told_as(row_outcome(h, board, row as u8))
+}
+
+// Asking a row, where the gate found this number.
+pub fn ask_after(
+    h: rules::House,
+    board: &[u8],
+    cells: &[u8],
+    heard: &[u8],
+    row: u32,
+    found: u8,
+) -> rules::Reply
+    requires { ⌜ found ≡ first (gate (memory h (now board) (now cells) (now heard)) (ask row)) ⌝ }
+    ensures { λ r. ⌜ Did (memory h (now (board .entry)) (now (cells .entry)) (now (heard .entry))) (ask row) (answerOf r) (memory h (now (board .entry)) (now (cells .entry)) (now (heard .entry))) ⌝ }
+{
+    if found != 0 {
+        return named::named(found);
+    }
+    ask_past(h, board, row)
+}
+
+// The book, where the gate found this number.
+pub fn book_after(
+    h: rules::House,
+    board: &[u8],
+    cells: &[u8],
+    heard: &[u8],
+    rows: &mut [u8],
+    waiting: &mut [u8],
+    found: u8,
+) -> rules::Reply
+    requires { ⌜ found ≡ first (gate (memory h (now board) (now cells) (now heard)) (book (now rows) (now waiting))) ⌝ }
+    ensures { λ r. ⌜ BookDid (memory h (now (board .entry)) (now (cells .entry)) (now (heard .entry))) (now (rows .entry)) (now (waiting .entry)) (now (rows .exit)) (now (waiting .exit)) (answerOf r) ⌝ }
+{
+    if found != 0 {
+        return named::named(found);
+    }
+    let f = write_book(h, board, rows, waiting);
+    let stop = f.stop;
+    rules::Reply::Booked {
+        rows: f.rows,
+        waiting: f.waiting,
         stop: stop,
     }
 }
