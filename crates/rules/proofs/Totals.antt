@@ -112,7 +112,7 @@ count-none zero = refl
 count-none (suc n) = omega (arith, count-none n)
 
 -- a quorum of a room whose tables pass has a node
-some-node : (ρ : Room) (q : ℕ) → first (tables ρ) ≡ 0 → List·Memᴰ q (ρ .quorums) → (a : ℕ) × (a < ρ .nodes) × T (bit q a)
+pub some-node : (ρ : Room) (q : ℕ) → first (tables ρ) ≡ 0 → List·Memᴰ q (ρ .quorums) → (a : ℕ) × (a < ρ .nodes) × T (bit q a)
 some-node ρ q e m =
     let c = clear (tables ρ) tt e in
     let w = all-sound (share ρ q) (ρ .quorums) (all-sound (λ p. all (share ρ p) (ρ .quorums)) (ρ .quorums) (c .1 .0) q m) q m in
