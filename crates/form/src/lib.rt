@@ -101,7 +101,7 @@ pub fn held_ok(nodes: u8, rows: u8, tubes: u8, m: Message) -> bool
 {
     let place = ((1 <= m.row) & (m.row <= rows)) & (m.bal <= 15);
     if m.kind == 1 {
-        return place & true;
+        return place;
     }
     if m.kind == 2 {
         return place
