@@ -1,6 +1,6 @@
 -- The book's rows by their tubes: how far they reach, the lines that they make, and the tubes that they leave waiting.
 use mathlib.Core.Path.{_≡_, refl, ap, sym, fun-ext, _∙_}
-use mathlib.Core.Bool.{Bool, true, false, not, _||_}
+use mathlib.Core.Bool.{Bool, true, false, not}
 use mathlib.Core.List.{List, [], _∷_, _++_, map, append-nil}
 use Prim.Native.Nat.{ℕ, zero, suc, _+_, _-_, _≤_, _<_}
 use native.Mathlib.Numerals.{add-one}
@@ -10,10 +10,10 @@ use borrow.Author.Tests.{ne-eqb}
 use lib.Dec.{T, eqb}
 use lib.ListN.{length, getD, drop, set, length-append}
 use lib.Seq.{drop-cons, append-snoc, set-append-seam, getD-set-same, getD-set-other}
-use Rattle.rules.specs.Tests.{pick, any, anyBelow, keep, upTo}
+use Rattle.rules.specs.Tests.{pick, keep, upTo}
 use Rattle.rules.specs.Words.{Room, State}
 use Rattle.rules.specs.Lent.{patch}
-use Rattle.rules.specs.Book.{Outcome, unchosen, agreed, split, outcome, tubeOf, isAgreed, isSplit, reach, rowTube, entry, bookOf, stands, waitingOf, stopped}
+use Rattle.rules.specs.Book.{agreed, outcome, tubeOf, isAgreed, isSplit, reach, rowTube, entry, bookOf, stands, waitingOf, stopped}
 use Rattle.rules.specs.Replies.{stopOf}
 use Rattle.rules.proofs.Lists.{keep-next, any-next, map-next, length-keep, length-up, leading-is}
 use Rattle.rules.proofs.Scan.{or-swap}

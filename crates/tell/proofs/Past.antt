@@ -1,23 +1,22 @@
 -- Past the gate: the votes can be counted, and a call is answered by the rules; asking and the book change nothing of memory.
 use mathlib.Core.Path.{_≡_, refl, ap, sym, _∙_}
 use mathlib.Core.Bool.{Bool, true, false, not, _&&_}
-use mathlib.Core.List.{List, [], _∷_, _++_}
-use Prim.Native.Nat.{ℕ, _*_, _^_, _/_, _≤_}
+use mathlib.Core.List.{List, [], _∷_}
+use Prim.Native.Nat.{ℕ, _*_, _≤_}
 use native.Mathlib.Nat.{zero-div}
 use native.Mathlib.Omega.{arith}
-use borrow.Author.Tests.{eq-eqb, ne-eqb}
+use borrow.Author.Tests.{ne-eqb}
 use lib.Dec.{T, eqb, leb, eqb→eq, leb→le}
 use lib.ListN.{length}
-use Rattle.rules.specs.Tests.{pick, any, all, allIn, bit, first}
-use Rattle.rules.specs.Words.{Msg, Room, State}
-use Rattle.rules.specs.Lent.{Memory, boardOf, roomOf, rowIn, read, tables, counts, long, limits, scanned, goodMsg, plainMsg, houseForm, boardForm, inForm}
+use Rattle.rules.specs.Tests.{pick, all, allIn, bit, first}
+use Rattle.rules.specs.Words.{Room, State}
+use Rattle.rules.specs.Lent.{Memory, boardOf, roomOf, rowIn, read, tables, counts, long, limits, scanned, goodMsg, houseForm, boardForm, inForm}
 use Rattle.rules.specs.Steps.{Call, ask, book, stays, effect, write, full}
 use Rattle.rules.specs.Book.{Outcome, unchosen, agreed, split, outcome, isSplit, tubeOf}
-use Rattle.rules.specs.Replies.{fields, tubes, rules, areas, gate, reply, after, answer, tell, bare, valued, rowsAfter, waitingAfter, stopOf, Answer, Did}
+use Rattle.rules.specs.Replies.{fields, tubes, rules, areas, gate, reply, after, answer, tell, bare, valued, rowsAfter, waitingAfter, stopOf}
 use Rattle.rules.proofs.Sound.{and-l, and-r, any-sound, in-sound, clear}
 use Rattle.rules.proofs.Lists.{failed}
 use Rattle.rules.proofs.Totals.{some-node}
-use Rattle.board.specs.Asked.{Plain}
 use Rattle.kept.specs.Kept.{Whole}
 use Rattle.kept.proofs.Lists.{all-more}
 use Rattle.kept.proofs.Stay.{after-by}

@@ -2,7 +2,7 @@
 use mathlib.Core.Path.{_≡_, refl, ap, sym, subst, _∙_}
 use mathlib.Core.Bool.{Bool, true, false, _&&_, _||_, and-false}
 use mathlib.Core.List.{List, [], _∷_, _++_, List·Memᴰ, List·Memᴰ·head, Memᴰ·append-left, Memᴰ·append-right}
-use Prim.Native.Nat.{ℕ, zero, suc, _+_, _-_, _*_, _/_, _%_, _^_, _≤_, _<_}
+use Prim.Native.Nat.{ℕ, zero, suc, _+_, _-_, _*_, _≤_, _<_}
 use native.Mathlib.Nat.{zero-div, add-zero}
 use native.Mathlib.Numerals.{add-one}
 use native.Mathlib.Decide.{ℕ-discrete}
@@ -11,9 +11,9 @@ use borrow.Author.Tests.{eq-eqb, ne-eqb}
 use lib.Dec.{T, eqb, leb→le}
 use lib.ListN.{length, getD, drop, set, replicate, length-set, getD-replicate}
 use lib.Seq.{getD-take, getD-drop, getD-set-same, getD-set-other}
-use Rattle.rules.specs.Tests.{pick, any, all, bit}
+use Rattle.rules.specs.Tests.{pick, any, bit}
 use Rattle.rules.specs.Words.{Msg, m1a, m1b, m1c, m2av, m2b, kindOf, Room}
-use Rattle.rules.specs.Lent.{window, msgOf, bytesOf, msgAt, meaning, stored, boardOf, roomOf, limits, plainMsg}
+use Rattle.rules.specs.Lent.{window, bytesOf, msgAt, meaning, stored, boardOf, roomOf, limits, plainMsg}
 use Rattle.rules.specs.Steps.{is2b}
 use Rattle.rules.specs.declared.House.{House}
 use Rattle.rules.specs.declared.Message.{Message}

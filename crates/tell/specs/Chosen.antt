@@ -30,7 +30,7 @@ filled nodes quorums have = any (λ q. allIn nodes q (bit have)) quorums
 unfoldable pub carried : ℕ → List ℕ → List ℕ → ℕ → Bool
 carried nodes quorums votes v = anyBelow (λ b. filled nodes quorums (getD votes (slot b v) 0)) 16
 
--- r is the next number from which on passes, up to 64, and 65 if there is none
+-- r is the first number from start on that passes, up to 64, and 65 if none does
 pub record Next (p : ℕ → Bool) (start r : ℕ) : Type 0 where
   pub low : start ≤ r
   pub high : r ≤ 65

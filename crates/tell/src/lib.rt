@@ -94,7 +94,7 @@ fn tube_chosen(quorums: &[u8; 64], n: usize, nodes: u8, votes: &[u8; 1024], tube
     false
 }
 
-// The next tube from one on that is chosen, 65 if there is none.
+// The next chosen tube from this one on, 65 if there is none.
 fn next_chosen(h: rules::House, votes: &[u8; 1024], start: u8) -> u8
     requires { ⌜ (h .nodes ≤ 8) × (h .listed ≤ 64) ⌝ }
     requires { ⌜ filled (h .nodes) (take (h .listed) (h .quorums)) 0 ≡ false ⌝ }
@@ -215,7 +215,7 @@ fn write_lines(tubes: &[u8; 64], n: usize, out: &mut [u8])
     }
 }
 
-// A tube that stands in none of the first n rows is put at w; where the next one goes.
+// A tube is put at w unless it stands in one of the first n rows; the answer is where the next one goes.
 fn put_waiting(tubes: &[u8; 64], n: usize, tube: u8, out: &mut [u8], w: u8) -> u8
     requires { ⌜ (n ≤ 64) × (w < 64) ⌝ }
     requires { ⌜ w < length (now out) ⌝ }
@@ -229,7 +229,7 @@ fn put_waiting(tubes: &[u8; 64], n: usize, tube: u8, out: &mut [u8], w: u8) -> u
     w + 1
 }
 
-// The tubes from 1 to last that stand in none of the first n rows, ascending; how many.
+// The tubes from 1 to last that stand in none of the first n rows, ascending; the answer is how many.
 fn write_waiting(tubes: &[u8; 64], n: usize, last: u8, out: &mut [u8]) -> u8
     requires { ⌜ (n ≤ 64) × (last ≤ 64) ⌝ }
     requires { ⌜ 64 ≤ length (now out) ⌝ }
