@@ -3,7 +3,7 @@ ghost use mathlib.Core.Path.{_≡_};
 ghost use Prim.Native.Nat.{_+_, _*_, _≤_, _<_};
 ghost use lib.ListN.{length, take, drop};
 ghost use lib.Seq.{paste};
-ghost use Rattle.rules.specs.Lent.{cellOf, cellAt, encode, patch};
+ghost use Rattle.rules.specs.Lent.{cellOf, cellAt, encode, patch, place};
 
 // Thirty-two bytes from a place of a slice.
 pub fn pairs_at(s: &[u8], at: usize) -> [u8; 32]
@@ -79,4 +79,14 @@ pub fn set_cell(cells: &mut [u8], k: usize, c: rules::Cell)
     let a = 36 * k;
     let e = a + 36;
     put_cell(&mut cells[a..e], c);
+}
+
+// N × R cells, node by node: the number of a node's cell in a row.
+pub fn place(rows: u8, row: rules::Row, node: rules::Node) -> usize
+    requires { ⌜ 1 ≤ row .0 ⌝ }
+    ensures { λ r. ⌜ r ≡ place rows (row .0) (node .0) ⌝ }
+{
+    let n = node.0 as usize;
+    let r = row.0 as usize;
+    n * (rows as usize) + (r - 1)
 }

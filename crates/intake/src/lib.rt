@@ -32,3 +32,14 @@ pub fn tube_for(stations: &[u8], serials: &[u32], n: usize, station: u8, serial:
     }
     n + 1
 }
+
+// The same of a house record's intake.
+pub fn tube_of(h: rules::House, station: u8, serial: u32) -> usize
+    requires { ⌜ h .tubes ≤ 64 ⌝ }
+    ensures { λ r. ⌜ r ≡ tubeFor (intakeOf (h .stations) (h .serials) (h .tubes)) station serial ⌝ }
+{
+    let a = h.stations;
+    let b = h.serials;
+    let n = h.tubes as usize;
+    tube_for(&a, &b, n, station, serial)
+}

@@ -2,7 +2,7 @@
 ghost use mathlib.Core.Path.{_≡_};
 ghost use mathlib.Core.Bool.{_&&_};
 ghost use lib.Dec.{leb, ltb};
-ghost use Rattle.rules.specs.Words.{balIn, tubeIn, scanIn, m1a, m1c, m2av, m2b};
+ghost use Rattle.rules.specs.Words.{balIn, tubeIn, scanIn, m1a, m1c, m2av};
 ghost use Rattle.rules.specs.Lent.{roomOf, rowIn, limits};
 use rules::House;
 
@@ -42,6 +42,13 @@ pub fn on_intake(h: House, tube: u32) -> bool
     ensures { λ r. ⌜ r ≡ leb tube (h .tubes) ⌝ }
 {
     tube <= h.tubes as u32
+}
+
+// A node, and the number of a message on the board.
+pub fn hear_in(h: House, node: u32, number: u32) -> bool
+    ensures { λ r. ⌜ r ≡ ltb node (h .nodes) && ltb number (h .count) ⌝ }
+{
+    (node < h.nodes as u32) & (number < h.count as u32)
 }
 
 // Row and ballot: all that a 1a has.

@@ -1,8 +1,10 @@
 // What an accepted step writes: one writer for each effect.
+pub mod act; // act.rt: what each accepted call does
+
 ghost use mathlib.Core.Path.{_≡_};
 ghost use Prim.Native.Nat.{suc, _+_, _*_, _≤_, _<_};
 ghost use lib.ListN.{length, set};
-ghost use Rattle.rules.specs.Lent.{setBit, marked, raised, house};
+ghost use Rattle.rules.specs.Lent.{setBit, marked, house};
 use rules::House;
 use rules::Node;
 

@@ -1,45 +1,35 @@
+-- A node's bit is set in its byte.
 use Prim.Native.Nat.{_%_}
 use native.Mathlib.Omega.{arith}
 use Rattle.write.proofs.Bits.{own-bit}
 use borrow.Author.Needs.{needs}
 use Rattle.write.proofs.set_heard.Statement.{statement}
 use Rattle.write.proofs.set_heard.Tie as tie
-use Rattle.write.proofs.set_heard.Reads as reads
-use Rattle.write.proofs.set_heard.Lts as lts
 
--- src/lib.rt:17:21
 cast-at : tie.Need-cast-at
 cast-at c = search needs
 
--- src/lib.rt:17:14
 mul-at : tie.Need-mul-at
 mul-at c = search needs
 
--- src/lib.rt:17:14
 add-at : tie.Need-add-at
 add-at c = search needs
 
--- src/lib.rt:18:15
 cast-bit : tie.Need-cast-bit
 cast-bit c = search needs
 
--- src/lib.rt:19:17
 slice-read-heard : tie.Need-slice-read-heard
 slice-read-heard c = search needs
 
--- src/lib.rt:19:30
 shl-heard : tie.Need-shl-heard
 shl-heard c = search needs
 
--- src/lib.rt:19:5
 slice-write-heard : tie.Need-slice-write-heard
 slice-write-heard c = search needs
 
--- src/lib.rt:10:1
 same-length : tie.Need-same-length
 same-length c = search needs
 
--- src/lib.rt:10:1
 returns : tie.Need-returns
 returns c = rw (own-bit (c .before .args .k % 8) (omega arith))
 

@@ -1,3 +1,4 @@
+-- A node's bit is set in the marks.
 use Prim.Native.Nat.{ℕ}
 use mathlib.Core.Path.{ap}
 use lib.Bits.{bitOr}
@@ -6,14 +7,10 @@ use Rattle.write.proofs.Bits.{own-bit}
 use borrow.Author.Needs.{needs}
 use Rattle.write.proofs.with_mark.Statement.{statement}
 use Rattle.write.proofs.with_mark.Tie as tie
-use Rattle.write.proofs.with_mark.Reads as reads
-use Rattle.write.proofs.with_mark.Lts as lts
 
--- src/lib.rt:29:28
 shl-out : tie.Need-shl-out
 shl-out c = search needs
 
--- src/lib.rt:23:1
 returns : tie.Need-returns
 returns c =
     let h = c .before .args .h in

@@ -1,26 +1,18 @@
+-- A 1c is within limits where its row, ballot and tube are.
 use borrow.Author.Needs.{needs}
 use Rattle.rules.specs.Lent.{limits}
 use Rattle.judge.proofs.limits.offer_in.Statement.{statement}
 use Rattle.judge.proofs.limits.offer_in.Tie as tie
-use Rattle.judge.proofs.limits.offer_in.Reads as reads
-use Rattle.judge.proofs.limits.offer_in.Lts as lts
-use Rattle.judge.proofs.limits.ballot_in.Reads as ballot-in-reads
-use Rattle.judge.proofs.limits.row_in.Reads as row-in-reads
-use Rattle.judge.proofs.limits.tube_in.Reads as tube-in-reads
 
--- src/limits.rt:65:6
 row-in-requires : tie.Need-row-in-requires
 row-in-requires c κs = search needs
 
--- src/limits.rt:65:23
 ballot-in-requires : tie.Need-ballot-in-requires
 ballot-in-requires c κs = search needs
 
--- src/limits.rt:65:44
 tube-in-requires : tie.Need-tube-in-requires
 tube-in-requires c κs = search needs
 
--- src/limits.rt:62:1
 returns : tie.Need-returns
 unfolding limits
 returns c = cc
