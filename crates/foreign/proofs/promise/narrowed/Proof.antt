@@ -42,8 +42,8 @@ loop-less c = search needs
 
 loop-again : tie.Need-loop-again Inv-loop μ-loop
 loop-again c =
-    let l = c .before .before .loop in
-    let a = c .before .before .before .args in
+    let l = c .before .loop in
+    let a = c .before .before .args in
     let len : length (a .t1) ≡ 32 = search needs in
     (omega arith, (simp length-set (l .inv .1 .0), copied-more (l .out) (a .t1) (l .i) (omega arith) (omega arith) (l .inv .1 .1)))
 
