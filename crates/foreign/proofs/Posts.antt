@@ -1,6 +1,6 @@
 -- Foreign posts of every kind: what their tests say together, what they let the writers do, and what is left.
 use mathlib.Core.Path.{_≡_, refl, ap, sym, _∙_}
-use mathlib.Core.Bool.{Bool, _&&_}
+use mathlib.Core.Bool.{Bool, true, _&&_}
 use mathlib.Core.List.{List, [], _∷_}
 use Prim.Native.Nat.{ℕ, _≤_, _<_}
 use native.Mathlib.Omega.{arith}
@@ -18,6 +18,12 @@ use Rattle.rules.proofs.Codec.{Small}
 use Rattle.kept.proofs.Ready.{length-intake, post-limits}
 use Rattle.kept.proofs.Stay.{done}
 use Rattle.judge.specs.Judged.{verdict}
+
+pub carry : (x y : Bool) → x ≡ y → T x → T y
+carry x y e t = rw e at t
+
+pub true-holds : (b : Bool) → b ≡ true → T b
+true-holds b e = rw e tt
 
 pub says-foreign : (m : Memory) (p : Post) (x y z : Bool) → postIn (roomOf (m .house)) p ≡ x → scanned (m .house .tubes) (posted p) ≡ y
     → fits (roomOf (m .house)) (read m) (posted p) ≡ z → first ((x, 6) ∷ (y, 7) ∷ (z, 15) ∷ []) ≡ verdict m (foreign p)

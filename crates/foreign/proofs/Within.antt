@@ -1,5 +1,5 @@
 -- What a foreign 1b, 2av or 2b within limits is: numbers that fit their bytes, and how a 1b is stored.
-use mathlib.Core.Path.{_≡_, refl, sym}
+use mathlib.Core.Path.{_≡_, refl, ap, sym, _∙_}
 use mathlib.Core.Bool.{Bool, true, false, _&&_}
 use mathlib.Core.List.{List}
 use Prim.Native.Nat.{ℕ, suc, _≤_, _<_}
@@ -8,12 +8,14 @@ use lib.Dec.{T, eqb, leb, ltb, leb→le, ltb→lt, eqb→eq}
 use lib.ListN.{length}
 use Rattle.rules.specs.Tests.{pick, all}
 use Rattle.rules.specs.Words.{heightOf, heightByte, balIn, tubeIn, m1b, m2av, Room}
-use Rattle.rules.specs.Lent.{pairsOf, pairBytes, stored, rowIn, pairsIn, limits}
+use Rattle.rules.specs.Lent.{pairsOf, pairBytes, stored, rowIn, pairsIn, limits, scanned}
 use Rattle.rules.specs.Steps.{p1b, posted}
 use Rattle.rules.specs.Replies.{pairsPlain, postIn}
+use Rattle.rules.specs.declared.Message.{Message}
 use Rattle.rules.proofs.Sound.{and-l, and-r}
 use Rattle.rules.proofs.Scan.{eqs-means}
-use Rattle.kept.proofs.Lists.{and-two}
+use Rattle.pairs.specs.Pairs.{passes}
+use Rattle.pairs.specs.declared.Ask.the-variants.{Scanned}
 use Rattle.pairs.proofs.Arrays.{length-pairs}
 use Rattle.foreign.specs.Given.{byte}
 use Rattle.foreign.proofs.Bytes.{count-in, in-bytes}
@@ -50,6 +52,15 @@ parts ρ r b n x y k l = go (rowIn ρ r && balIn b) (ltb n (ρ .nodes)) (leb (he
     go true false d e f g = refl
     go false c d e f g = refl
 
+pub judged-1b : (ρ : Room) (r b n x y k : ℕ) (l : List ℕ) (a h v : Bool) → ((rowIn ρ r && balIn b) && ltb n (ρ .nodes)) ≡ a → leb (heightOf x) 16 ≡ h → leb y 64 ≡ v
+    → ((a && (h && v)) && (pairsIn (pairsOf k l) && pairsPlain k l)) ≡ postIn ρ (p1b r b n x y k l)
+judged-1b ρ r b n x y k l a h v e f g = sym (parts ρ r b n x y k l ∙ (λ i. (e i && (f i && g i)) && (pairsIn (pairsOf k l) && pairsPlain k l)))
+
+-- test 7 for a 1b
+pub tubes-as : (t r b n x y k : ℕ) (l : List ℕ) (z : Bool) → leb y t ≡ z → (z && all (passes (Scanned t)) (pairsOf k l)) ≡ scanned t (posted (p1b r b n x y k l))
+unfolding scanned
+tubes-as t r b n x y k l z e = sym (ap (λ (u : Bool). u && all (passes (Scanned t)) (pairsOf k l)) e)
+
 pub record Within (ρ : Room) (r b n x y k : ℕ) (l : List ℕ) : Type 0 where
   pub row : r ≤ ρ .rows
   pub bal : b ≤ 15
@@ -80,8 +91,11 @@ within ρ r b n x y k l e t =
       plain = eqs-means l (pairBytes (pairsOf k l)) (and-r (pairsIn (pairsOf k l)) (pairsPlain k l) p);
     }
 
-pub stored-1b : (ρ : Room) (r b n x y k : ℕ) (l : List ℕ) → Within ρ r b n x y k l
-    → record { kind = 2; row = r; bal = b; node = n; tube = 0; mbal = x; mval = y; count = k; pairs = l } ≡ stored (posted (p1b r b n x y k l))
+-- its numbers as they stand
+abbrev pub carried : ℕ → ℕ → ℕ → ℕ → ℕ → ℕ → List ℕ → Message
+carried r b n x y k l = record { kind = 2; row = r; bal = b; node = n; tube = 0; mbal = x; mval = y; count = k; pairs = l }
+
+pub stored-1b : (ρ : Room) (r b n x y k : ℕ) (l : List ℕ) → Within ρ r b n x y k l → carried r b n x y k l ≡ stored (posted (p1b r b n x y k l))
 unfolding stored
 stored-1b ρ r b n x y k l w =
     λ i. record { kind = 2; row = r; bal = b; node = n; tube = 0; mbal = sym (byte-back x) i; mval = y; count = sym (length-pairs k l) i; pairs = w .plain i }

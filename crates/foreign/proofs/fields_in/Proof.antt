@@ -1,67 +1,52 @@
+-- Test 6 by kind.
+use mathlib.Core.Path.{ap, sym, _∙_}
+use mathlib.Core.Bool.{Bool}
 use borrow.Author.Needs.{needs}
+use Rattle.rules.specs.Lent.{roomOf, limits}
+use Rattle.rules.specs.Replies.{postIn}
+use Rattle.foreign.specs.declared.Post.{Post}
+use Rattle.foreign.specs.Given.{postOf}
 use Rattle.foreign.proofs.fields_in.Statement.{statement}
 use Rattle.foreign.proofs.fields_in.Tie as tie
-use Rattle.foreign.proofs.fields_in.Reads as reads
-use Rattle.foreign.proofs.fields_in.Lts as lts
-use Rattle.foreign.proofs.promise.fields_1b.Reads as fields-1b-reads
-use Rattle.judge.proofs.limits.vote_in.Reads as vote-in-reads
 
--- src/lib.rt:52:20
+abbrev told : tie.Start → Post → Bool
+told b k = let a = b .args in postIn (roomOf (a .h)) (postOf k (a .pairs))
+
 enum-known-post : tie.Need-enum-known-post
 enum-known-post c = search needs
 
--- src/lib.rt:52:26
-fields-1b-requires : tie.Need-fields-1b-requires
-fields-1b-requires c κs = search needs
-
--- src/lib.rt:53:21
 enum-known-post-2 : tie.Need-enum-known-post-2
 enum-known-post-2 c = search needs
 
--- src/lib.rt:53:27
-vote-in-requires : tie.Need-vote-in-requires
-vote-in-requires c κs = search needs
-
--- src/lib.rt:54:22
 enum-known-post-3 : tie.Need-enum-known-post-3
 enum-known-post-3 c = search needs
 
--- src/lib.rt:54:28
-vote-in-requires-2 : tie.Need-vote-in-requires-2
-vote-in-requires-2 c κs = search needs
-
--- src/lib.rt:55:24
 enum-told : tie.Need-enum-told
 enum-told c = search needs
 
--- src/lib.rt:48:1
+fields-1b-requires : tie.Need-fields-1b-requires
+fields-1b-requires c κs = search needs
+
+vote-in-requires : tie.Need-vote-in-requires
+vote-in-requires c κs = search needs
+
+vote-in-requires-2 : tie.Need-vote-in-requires-2
+vote-in-requires-2 c κs = search needs
+
 returns : tie.Need-returns
-returns c = ?
+returns c = c .fields-1b .ensures ∙ sym (ap (told (c .before .before .before .before)) (c .before .before .post .given .1))
 
--- src/lib.rt:48:1
 returns-2 : tie.Need-returns-2
-returns-2 c = ?
+unfolding limits
+returns-2 c = c .vote-in .ensures ∙ sym (ap (told (c .before .before .before .before)) (c .before .before .post2 .given .1))
 
--- src/lib.rt:48:1
 returns-3 : tie.Need-returns-3
-returns-3 c = ?
+unfolding limits
+returns-3 c = c .vote-in2 .ensures ∙ sym (ap (told (c .before .before .before .before)) (c .before .before .post3 .given .1))
 
--- src/lib.rt:48:1
 returns-4 : tie.Need-returns-4
-returns-4 c = ?
+unfolding limits
+returns-4 c = sym (ap (told (c .before .before)) (c .enum-told .given .1))
 
 pub fields-in-spec : {M : Type 1} → statement M
-fields-in-spec =
-    tie.close
-    (tie.spec
-    enum-known-post
-    fields-1b-requires
-    enum-known-post-2
-    vote-in-requires
-    enum-known-post-3
-    vote-in-requires-2
-    enum-told
-    returns
-    returns-2
-    returns-3
-    returns-4)
+fields-in-spec = tie.close (tie.spec enum-known-post fields-1b-requires enum-known-post-2 vote-in-requires enum-known-post-3 vote-in-requires-2 enum-told returns returns-2 returns-3 returns-4)

@@ -1,48 +1,45 @@
+-- Pairs of any size in form: more than sixteen are not, nor is an array with a number above 255, and else its bytes decide.
+use mathlib.Core.Path.{_≡_, ap, sym, _∙_}
+use mathlib.Core.Bool.{_&&_}
+use mathlib.Core.List.{List}
+use Prim.Native.Nat.{ℕ}
+use native.Mathlib.Omega.{arith}
 use borrow.Author.Needs.{needs}
+use borrow.Author.Tests.{not-true, not-false}
+use lib.ListN.{length}
+use Rattle.rules.specs.Lent.{pairsOf, pairsIn}
+use Rattle.rules.specs.Replies.{pairsPlain}
+use Rattle.pairs.proofs.Arrays.{over}
+use Rattle.foreign.proofs.Bytes.{not-bytes}
+use Rattle.foreign.proofs.Posts.{true-holds}
 use Rattle.foreign.proofs.promise.pairs_in.Statement.{statement}
 use Rattle.foreign.proofs.promise.pairs_in.Tie as tie
-use Rattle.foreign.proofs.promise.pairs_in.Reads as reads
-use Rattle.foreign.proofs.promise.pairs_in.Lts as lts
-use Rattle.foreign.proofs.promise.all_bytes.Reads as all-bytes-reads
-use Rattle.foreign.proofs.promise.narrowed.Reads as narrowed-reads
-use Rattle.pairs.proofs.pairs_in.Reads as pairs-in-reads
 
--- src/promise.rt:58:9
 returns : tie.Need-returns
-returns c = ?
+returns c = let a = c .before .args in sym (over (a .pairs) (a .count) (omega arith))
 
--- src/promise.rt:60:9
 all-bytes-requires : tie.Need-all-bytes-requires
 all-bytes-requires c κs = search needs
 
--- src/promise.rt:61:9
 returns-2 : tie.Need-returns-2
-returns-2 c = ?
+returns-2 c =
+    let a = c .before .before .before .args in
+    let len : length (a .pairs) ≡ 32 = search needs in
+    sym (not-bytes (a .pairs) (a .count) len (sym (c .before .all-bytes .ensures) ∙ not-true _ (c .if2 .taken)))
 
--- src/promise.rt:63:9
 narrowed-requires : tie.Need-narrowed-requires
-narrowed-requires c κs = ?
+narrowed-requires c κs = true-holds _ (sym (c .before .all-bytes .ensures) ∙ not-false _ (c .if2 .left))
 
--- src/promise.rt:64:28
 cast-pairs-in : tie.Need-cast-pairs-in
 cast-pairs-in c = search needs
 
--- src/promise.rt:64:5
 pairs-in-requires : tie.Need-pairs-in-requires
 pairs-in-requires c κs = search needs
 
--- src/promise.rt:54:1
 returns-3 : tie.Need-returns-3
-returns-3 c = ?
+returns-3 c =
+    let a = c .before .before .before .before .before .args in
+    c .pairs-in .ensures ∙ ap (λ (l : List ℕ). pairsIn (pairsOf (a .count) l) && pairsPlain (a .count) l) (c .before .narrowed .ensures)
 
 pub pairs-in-spec : {M : Type 1} → statement M
-pairs-in-spec =
-    tie.close
-    (tie.spec
-    returns
-    all-bytes-requires
-    returns-2
-    narrowed-requires
-    cast-pairs-in
-    pairs-in-requires
-    returns-3)
+pairs-in-spec = tie.close (tie.spec returns all-bytes-requires returns-2 narrowed-requires cast-pairs-in pairs-in-requires returns-3)
