@@ -12,3 +12,4 @@ pub mod Totals
 pub mod Refusals
 pub mod Forms
 pub mod Spare
+pub mod Scan

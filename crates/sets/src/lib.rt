@@ -1,0 +1,78 @@
+// Node sets as bytes, bit 0 for node 0: membership, one node more, the search for a full set, and how many nodes.
+ghost use mathlib.Core.Path.{_≡_};
+ghost use mathlib.Core.Bool.{not, _&&_};
+ghost use Prim.Native.Nat.{_^_, _≤_, _<_};
+ghost use lib.Dec.{ltb};
+ghost use lib.ListN.{length, take};
+ghost use Rattle.rules.specs.Tests.{any, allIn, bit, count};
+ghost use Rattle.sets.specs.Joined.{joined};
+
+pub fn in_set(set: u8, a: u8) -> bool
+    requires { ⌜ a < 8 ⌝ }
+    ensures { λ r. ⌜ r ≡ bit set a ⌝ }
+{
+    (set >> a) % 2 == 1
+}
+
+// The set with one node more; a number that is no node's adds none.
+pub fn with_node(set: u8, node: u8) -> u8
+    ensures { λ r. ⌜ r ≡ joined set node ⌝ }
+{
+    if node < 8 { set | (1u8 << node) } else { set }
+}
+
+// Whether node a is of the set q and not of the set have.
+pub fn lacks(q: u8, have: u8, a: u8) -> bool
+    requires { ⌜ a < 8 ⌝ }
+    ensures { λ r. ⌜ r ≡ bit q a && not (bit have a) ⌝ }
+{
+    if in_set(q, a) {
+        !in_set(have, a)
+    } else {
+        false
+    }
+}
+
+// Whether some of the first n sets of the list has all its nodes in have. Both loops are left at the first such set.
+pub fn some_full(list: &[u8], n: usize, nodes: u8, have: u8) -> bool
+    requires { ⌜ n ≤ length (now list) ⌝ }
+    requires { ⌜ nodes ≤ 8 ⌝ }
+    ensures { λ r. ⌜ r ≡ any (λ q. allIn nodes q (bit have)) (take n (now (list .entry))) ⌝ }
+{
+    let mut found = false;
+    let mut k: usize = 0;
+    'sets: while k < n {
+        let q = list[k];
+        let mut a: u8 = 0;
+        'nodes: loop {
+            if a == nodes {
+                found = true;
+                break 'sets;
+            }
+            if lacks(q, have, a) {
+                break 'nodes;
+            }
+            a += 1;
+        }
+        k += 1;
+    }
+    found
+}
+
+// Whether two sets share more than f nodes.
+pub fn share(p: u8, q: u8, nodes: u8, faulty: u8) -> bool
+    requires { ⌜ (p < 2 ^ nodes) × (q < 2 ^ nodes) ⌝ }
+    ensures { λ r. ⌜ r ≡ ltb faulty (count (λ a. bit p a && bit q a) nodes) ⌝ }
+{
+    let n = u8::count_ones(p & q);
+    (faulty as u32) < n
+}
+
+// Whether a set has more than f nodes.
+pub fn strong(w: u8, nodes: u8, faulty: u8) -> bool
+    requires { ⌜ w < 2 ^ nodes ⌝ }
+    ensures { λ r. ⌜ r ≡ ltb faulty (count (bit w) nodes) ⌝ }
+{
+    let n = u8::count_ones(w);
+    (faulty as u32) < n
+}
