@@ -1,0 +1,4 @@
+pub mod Each
+pub mod Sets
+pub mod Counted
+pub mod Plain
