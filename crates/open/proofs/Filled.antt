@@ -8,6 +8,7 @@ use lib.ListN.{length, take, drop, set, length-append, take-append-drop}
 use lib.Seq.{take-at, drop-at, drop-drop, set-split}
 use Rattle.rules.specs.Tests.{many}
 use Rattle.rules.specs.Lent.{patch}
+use Rattle.kept.proofs.Open.{length-many}
 
 -- one part more
 pub next : (s xs ys : List ℕ) (n : ℕ) → length xs ≡ n → patch (patch s 0 xs) n ys ≡ patch s 0 (xs ++ ys)
@@ -22,14 +23,10 @@ pub many-last : (k : ℕ) (w : List ℕ) → many (suc k) w ≡ many k w ++ w
 many-last zero w = append-nil w
 many-last (suc k) w = ap (λ (t : List ℕ). w ++ t) (many-last k w) ∙ sym (append-assoc w (many k w) w)
 
-pub length-many : (k n : ℕ) (w : List ℕ) → length w ≡ n → length (many k w) ≡ n * k
-length-many zero n w e = omega arith
-length-many (suc k) n w e = length-append w (many k w) ∙ omega (arith, length-many k n w e)
-
 -- a part w of n bytes into the place numbered k of an area that has k such parts in front
 pub filled-more : (s t w : List ℕ) (k n : ℕ) → length w ≡ n → t ≡ patch s 0 (many k w) → patch t (n * k) w ≡ patch s 0 (many (k + 1) w)
 filled-more s t w k n l e =
-    ap (λ (x : List ℕ). patch x (n * k) w) e ∙ next s (many k w) w (n * k) (length-many k n w l)
+    ap (λ (x : List ℕ). patch x (n * k) w) e ∙ next s (many k w) w (n * k) (length-many w n k l)
     ∙ ap (λ (x : List ℕ). patch s 0 x) (sym (ap (λ (j : ℕ). many j w) (add-one k) ∙ many-last k w))
 
 pub filled-none : (s w : List ℕ) → s ≡ patch s 0 (many 0 w)

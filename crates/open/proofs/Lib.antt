@@ -1,1 +1,4 @@
 pub mod Filled
+pub mod Tabled
+pub mod Listed
+pub mod Housed
