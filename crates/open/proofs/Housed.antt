@@ -25,8 +25,8 @@ pub record Sizes (ρ : Room) : Type 0 where
   pub quorums : length (ρ .quorums) ≤ 64
   pub weaks : length (ρ .weaks) ≤ 64
 
-pub sizes : {ρ : Room} → Housed ρ → Sizes ρ
-sizes {ρ} h = let t : T (roomCounts ρ) = rw (h .counts) tt in
+pub sizes-of : (ρ : Room) → roomCounts ρ ≡ true → Sizes ρ
+sizes-of ρ e = let t : T (roomCounts ρ) = rw e tt in
     record {
       nodes = search (leb→le, and-l, and-r) depth 9;
       faulty = search (leb→le, and-l, and-r) depth 9;
@@ -35,6 +35,9 @@ sizes {ρ} h = let t : T (roomCounts ρ) = rw (h .counts) tt in
       quorums = search (leb→le, and-l, and-r) depth 9;
       weaks = search (leb→le, and-l, and-r) depth 9;
     }
+
+pub sizes : {ρ : Room} → Housed ρ → Sizes ρ
+sizes {ρ} h = sizes-of ρ (h .counts)
 
 -- a set of present nodes is a byte
 pub bytes : {ρ : Room} → Housed ρ → (l : List ℕ) → all (present ρ) l ≡ true → (k : ℕ) → k < length l → getD l k 0 < 256
