@@ -1,9 +1,9 @@
 -- What opening leaves where it is refused, and where it is done.
-use mathlib.Core.Path.{_≡_, refl, ap, sym, _∙_}
-use mathlib.Core.Bool.{Bool, true, false, _&&_}
+use mathlib.Core.Path.{_≡_, ap, sym, _∙_}
+use mathlib.Core.Bool.{Bool, true, false}
 use mathlib.Core.List.{List, [], _∷_}
 use Prim.Native.Nat.{ℕ, _*_, _≤_}
-use native.Mathlib.Nat.{mul-le-mul, le-trans}
+use native.Mathlib.Nat.{mul-le-mul}
 use native.Mathlib.Omega.{arith}
 use borrow.Author.Tests.{eq-eqb}
 use lib.Dec.{T, leb, leb→le}
@@ -17,7 +17,7 @@ use Rattle.rules.proofs.Refusals.{opening-keeps}
 use Rattle.rules.proofs.Scan.{holds}
 use Rattle.rules.proofs.Sound.{Clear, clear, and-l, and-r}
 use Rattle.open.specs.Room.{Housed}
-use Rattle.open.proofs.Housed.{Sizes, sizes}
+use Rattle.open.proofs.Housed.{sizes}
 
 -- no test has a higher number
 most : (n : ℕ) (l : List (Bool × ℕ)) → T (all (λ x. leb (x .1) n) l) → first l ≤ n

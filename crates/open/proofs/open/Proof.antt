@@ -1,9 +1,7 @@
 -- Refused: nothing is written. Done: cells, heard bits and the house record as opening leaves them.
-use mathlib.Core.Path.{_≡_, refl, sym, _∙_}
-use Prim.Native.Nat.{ℕ}
+use mathlib.Core.Path.{_≡_}
 use native.Mathlib.Omega.{arith}
 use borrow.Author.Needs.{needs}
-use borrow.Author.Tests.{not-true, not-false, eqb-true, eqb-false}
 use Rattle.rules.specs.Words.{Room}
 use Rattle.rules.specs.Lent.{Memory, memory}
 use Rattle.rules.specs.Replies.{openReply}

@@ -1,10 +1,9 @@
 -- Each turn fills one cell more.
-use mathlib.Core.Path.{_≡_, refl, ap, sym, _∙_}
-use mathlib.Core.List.{List, [], _∷_}
+use mathlib.Core.Path.{_≡_, refl, ap, _∙_}
 use Prim.Native.Nat.{ℕ, _≤_, _-_, _*_}
 use native.Mathlib.Omega.{arith}
 use borrow.Author.Needs.{needs}
-use lib.ListN.{length, set, length-set}
+use lib.ListN.{length}
 use Rattle.rules.specs.Tests.{many}
 use Rattle.rules.specs.Words.{fresh}
 use Rattle.rules.specs.Lent.{patch, encode, storedCell}
@@ -13,10 +12,6 @@ use Rattle.rules.proofs.Area.{length-patch}
 use Rattle.open.proofs.Filled.{filled-more}
 use Rattle.open.proofs.clear.fresh_cells.Statement.{statement}
 use Rattle.open.proofs.clear.fresh_cells.Tie as tie
-use Rattle.open.proofs.clear.fresh_cells.Reads as reads
-use Rattle.open.proofs.clear.fresh_cells.Lts as lts
-use Rattle.cell.proofs.set_cell.Reads as set-cell-reads
-use Rattle.rules.proofs.Cell.fresh.Reads as fresh-reads
 
 abbrev Inv-loop : tie.InvT-loop
 Inv-loop cells₀ n c k₀ cells k = (k ≤ n) × ((length cells ≡ length cells₀) × (cells ≡ patch cells₀ 0 (many k (encode (storedCell fresh)))))
@@ -24,27 +19,21 @@ Inv-loop cells₀ n c k₀ cells k = (k ≤ n) × ((length cells ≡ length cell
 abbrev μ-loop : tie.MeasureT-loop
 μ-loop cells₀ n c k₀ cells k = n - k
 
--- src/clear.rt:16:9
 fresh-requires : tie.Need-fresh-requires Inv-loop μ-loop
 fresh-requires c κs = search needs
 
--- src/clear.rt:18:5
 loop-holds : tie.Need-loop-holds Inv-loop μ-loop
 loop-holds c = (search needs, (refl, refl))
 
--- src/clear.rt:19:9
 set-cell-requires : tie.Need-set-cell-requires Inv-loop μ-loop
 set-cell-requires c κs = (search needs, search needs)
 
--- src/clear.rt:20:9
 add-k : tie.Need-add-k Inv-loop μ-loop
 add-k c = search needs
 
--- src/clear.rt:18:5
 loop-less : tie.Need-loop-less Inv-loop μ-loop
 loop-less c = search needs
 
--- src/clear.rt:18:5
 loop-again : tie.Need-loop-again Inv-loop μ-loop
 loop-again c =
     let l = c .before .before .before .before .before .loop in
@@ -54,11 +43,9 @@ loop-again c =
     c .before .before .set-cell .ensures ∙ ap (λ (x : Cell). patch (l .cells) (36 * l .k) (encode x)) (c .before .before .before .before .before .before .fresh .ensures) in
     (omega arith, (ap length e ∙ length-patch (l .cells) w (36 * l .k) (omega arith) ∙ l .inv .1 .0, e ∙ filled-more (a .cells .now) (l .cells) w (l .k) 36 refl (l .inv .1 .1)))
 
--- src/clear.rt:11:1
 same-length : tie.Need-same-length Inv-loop μ-loop
 same-length c = c .before .loop .inv .1 .0
 
--- src/clear.rt:11:1
 returns : tie.Need-returns Inv-loop μ-loop
 returns c =
     let l = c .before .loop in

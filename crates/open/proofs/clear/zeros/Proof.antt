@@ -1,6 +1,6 @@
 -- Each turn clears one byte more.
-use mathlib.Core.Path.{_≡_, refl, ap, sym, _∙_}
-use mathlib.Core.List.{List, [], _∷_}
+use mathlib.Core.Path.{_≡_, refl, ap, _∙_}
+use mathlib.Core.List.{[], _∷_}
 use Prim.Native.Nat.{ℕ, _≤_, _-_, _*_}
 use native.Mathlib.Omega.{arith}
 use borrow.Author.Needs.{needs}
@@ -10,8 +10,6 @@ use Rattle.rules.specs.Lent.{patch}
 use Rattle.open.proofs.Filled.{filled-more, set-patch}
 use Rattle.open.proofs.clear.zeros.Statement.{statement}
 use Rattle.open.proofs.clear.zeros.Tie as tie
-use Rattle.open.proofs.clear.zeros.Reads as reads
-use Rattle.open.proofs.clear.zeros.Lts as lts
 
 abbrev Inv-loop : tie.InvT-loop
 Inv-loop s₀ n k₀ s k = (k ≤ n) × ((length s ≡ length s₀) × (s ≡ patch s₀ 0 (many k (0 ∷ []))))
@@ -19,23 +17,18 @@ Inv-loop s₀ n k₀ s k = (k ≤ n) × ((length s ≡ length s₀) × (s ≡ pa
 abbrev μ-loop : tie.MeasureT-loop
 μ-loop s₀ n k₀ s k = n - k
 
--- src/clear.rt:30:5
 loop-holds : tie.Need-loop-holds Inv-loop μ-loop
 loop-holds c = (search needs, (refl, refl))
 
--- src/clear.rt:31:9
 slice-write-s : tie.Need-slice-write-s Inv-loop μ-loop
 slice-write-s c = search needs
 
--- src/clear.rt:32:9
 add-k : tie.Need-add-k Inv-loop μ-loop
 add-k c = search needs
 
--- src/clear.rt:30:5
 loop-less : tie.Need-loop-less Inv-loop μ-loop
 loop-less c = search needs
 
--- src/clear.rt:30:5
 loop-again : tie.Need-loop-again Inv-loop μ-loop
 loop-again c =
     let l = c .before .loop in
@@ -44,11 +37,9 @@ loop-again c =
     let e : set (l .s) (l .k) 0 ≡ patch (l .s) (1 * l .k) (0 ∷ []) = set-patch (l .s) (l .k) 0 (omega arith) ∙ ap (λ (k : ℕ). patch (l .s) k (0 ∷ [])) q in
     (omega arith, (simp length-set (l .inv .1 .0), e ∙ filled-more (a .s .now) (l .s) (0 ∷ []) (l .k) 1 refl (l .inv .1 .1)))
 
--- src/clear.rt:25:1
 same-length : tie.Need-same-length Inv-loop μ-loop
 same-length c = c .before .loop .inv .1 .0
 
--- src/clear.rt:25:1
 returns : tie.Need-returns Inv-loop μ-loop
 returns c =
     let l = c .before .loop in
