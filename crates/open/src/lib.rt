@@ -7,9 +7,9 @@ ghost use Rattle.open.specs.Room.{room};
 use rules::House;
 use rules::Reply;
 
-pub mod clear; // clear.rt: cells and heard bits as opening leaves them
-pub mod lists; // lists.rt: the quorum list and the weak list
-pub mod room; // room.rt: the room's counts and its house record
+mod clear; // clear.rt: cells and heard bits as opening leaves them
+mod lists; // lists.rt: the quorum list and the weak list
+mod room; // room.rt: the room's counts and its house record
 
 // What opening replies, and the house record afterwards.
 pub struct Opening {
@@ -59,7 +59,7 @@ pub fn open(
 }
 
 // The number that opening replies, whatever house record stood there.
-pub fn judge_open(
+fn judge_open(
     board: &[u8],
     cells: &[u8],
     heard: &[u8],
