@@ -25,7 +25,7 @@ use Rattle.kept.proofs.Stay.{in-form}
 
 -- ---- lists that opening writes
 
-length-many : (w : List ℕ) (k n : ℕ) → length w ≡ k → length (many n w) ≡ k * n
+pub length-many : (w : List ℕ) (k n : ℕ) → length w ≡ k → length (many n w) ≡ k * n
 length-many w k zero e = omega arith
 length-many w k (suc n) e = length-append w (many n w) ∙ omega (arith, length-many w k n e)
 
@@ -48,6 +48,17 @@ take-fit : (n : ℕ) (l : List ℕ) → length l ≤ n → take (length l) (fit 
 take-fit n [] h = refl
 take-fit zero (x ∷ l) h = absurd (omega arith)
 take-fit (suc n) (x ∷ l) h = ap (λ (t : List ℕ). x ∷ t) (take-fit n l (omega arith))
+
+-- ---- the house record of a room
+
+-- it is read as that room
+pub room-back : (ρ : Room) → length (ρ .quorums) ≤ 64 → length (ρ .weaks) ≤ 64 → roomOf (houseOf ρ) ≡ ρ
+room-back ρ q w = λ i. record { nodes = ρ .nodes; faulty = ρ .faulty; rows = ρ .rows; capacity = ρ .capacity; quorums = take-fit 64 (ρ .quorums) q i; weaks = take-fit 64 (ρ .weaks) w i }
+
+-- its counts are in limits
+pub counts-back : (ρ : Room) → T (roomCounts ρ) → T (counts (houseOf ρ))
+unfolding counts
+counts-back ρ t = let z = le→leb 0 (ρ .capacity) (omega arith) in search (and-two, and-l, and-r, t, z) depth 12
 
 -- ---- opening
 
@@ -76,7 +87,7 @@ module _ (ρ : Room) (m : Memory) (e : openReply ρ m ≡ 0) where
   listed = let t = tests .0 in (search (leb→le, and-l, and-r) depth 9, search (leb→le, and-l, and-r) depth 9)
 
   room : roomOf (houseOf ρ) ≡ ρ
-  room = λ i. record { nodes = ρ .nodes; faulty = ρ .faulty; rows = ρ .rows; capacity = ρ .capacity; quorums = take-fit 64 (ρ .quorums) (listed .0) i; weaks = take-fit 64 (ρ .weaks) (listed .1) i }
+  room = room-back ρ (listed .0) (listed .1)
 
   -- a cell as opening sets it
   window-new : (k : ℕ) → k < ρ .nodes * ρ .rows → take 36 (drop (36 * k) (m′ .cells)) ≡ encode (storedCell fresh)
@@ -111,10 +122,6 @@ module _ (ρ : Room) (m : Memory) (e : openReply ρ m ≡ 0) where
         subst (λ (b : Bool). T (not b || is1bAt [] k)) (sym (unheard a k l i)) tt));
   }
 
-  counted : T (counts (houseOf ρ))
-  unfolding counts
-  counted = let t = tests .0 in let z = le→leb 0 (ρ .capacity) (omega arith) in search (and-two, and-l, and-r, t, z) depth 12
-
   lengthy : T (long m′)
   unfolding long
   lengthy =
@@ -127,7 +134,7 @@ module _ (ρ : Room) (m : Memory) (e : openReply ρ m ≡ 0) where
 
   pub begun : Begun ρ (opening ρ m)
   begun = rw opens-to (record {
-    whole = record { typed = record { stations = length-fit 64 []; serials = length-fit 64 [] }; counts = counted; long = lengthy; form = in-form m′ form };
+    whole = record { typed = record { stations = length-fit 64 []; serials = length-fit 64 [] }; counts = counts-back ρ (tests .0); long = lengthy; form = in-form m′ form };
     room = room;
     empty = reads;
   })
