@@ -1,0 +1,4 @@
+pub mod Splits
+pub mod Decimal
+pub mod Listing
+pub mod Cases

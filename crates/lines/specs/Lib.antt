@@ -1,0 +1,5 @@
+pub mod Splits
+pub mod Decimal
+pub mod Grammar
+pub mod Held
+pub mod Cases
