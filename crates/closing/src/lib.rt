@@ -1,0 +1,1 @@
+// What the sheet prints, written into a lent buffer.
