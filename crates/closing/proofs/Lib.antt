@@ -1,1 +1,3 @@
 pub mod Cases
+pub mod Lines
+pub mod Writing
