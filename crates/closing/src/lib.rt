@@ -5,6 +5,7 @@ ghost use Prim.Native.Nat.{_+_, _*_, _≤_};
 ghost use lib.ListN.{length};
 ghost use Rattle.lines.specs.Decimal.{decimal};
 ghost use Rattle.closing.specs.Laws.{OneOwn, TotalsTell};
+ghost use Rattle.closing.specs.Printed.{inFields, answerText, enters, repeats, waits, splits, totals, owner, lineText};
 ghost use Rattle.closing.specs.Given.{Wrote};
 
 // What the closing lines promise, carried by a function that does nothing.
@@ -45,4 +46,83 @@ fn end_line(out: &mut [u8], at: usize) -> usize
 {
     out[at] = b'\n';
     at + 1
+}
+
+// The station and the serial of a scan, and the end of the line.
+fn put_owner(out: &mut [u8], at: usize, station: u8, serial: u32) -> usize
+    requires { ⌜ at + 38 ≤ length (now out) ⌝ }
+    ensures { λ r. ⌜ Wrote (now (out .entry)) at (inFields (owner station serial)) r (now (out .exit)) ⌝ }
+    ensures { λ r. ⌜ r ≤ at + 38 ⌝ }
+{
+    let first = put_field(out, at, b" station=", station as u32);
+    let second = put_field(out, first, b" serial=", serial);
+    end_line(out, second)
+}
+
+// The line of a row that enters its tube.
+fn row_line(out: &mut [u8], at: usize, row: u8, tube: u8, station: u8, serial: u32) -> usize
+    requires { ⌜ at + 68 ≤ length (now out) ⌝ }
+    ensures { λ r. ⌜ Wrote (now (out .entry)) at (lineText (enters row tube station serial)) r (now (out .exit)) ⌝ }
+    ensures { λ r. ⌜ r ≤ at + 68 ⌝ }
+{
+    let first = put_field(out, at, b"row=", row as u32);
+    let second = put_field(out, first, b" tube=", tube as u32);
+    put_owner(out, second, station, serial)
+}
+
+// The line of a void row.
+fn void_line(out: &mut [u8], at: usize, row: u8, tube: u8) -> usize
+    requires { ⌜ at + 68 ≤ length (now out) ⌝ }
+    ensures { λ r. ⌜ Wrote (now (out .entry)) at (lineText (repeats row tube)) r (now (out .exit)) ⌝ }
+    ensures { λ r. ⌜ r ≤ at + 68 ⌝ }
+{
+    let first = put_field(out, at, b"row=", row as u32);
+    let second = put_field(out, first, b" void=", tube as u32);
+    end_line(out, second)
+}
+
+// The line of a waiting tube.
+fn waiting_line(out: &mut [u8], at: usize, tube: u8, station: u8, serial: u32) -> usize
+    requires { ⌜ at + 56 ≤ length (now out) ⌝ }
+    ensures { λ r. ⌜ Wrote (now (out .entry)) at (lineText (waits tube station serial)) r (now (out .exit)) ⌝ }
+    ensures { λ r. ⌜ r ≤ at + 56 ⌝ }
+{
+    let first = put_field(out, at, b"waiting=", tube as u32);
+    put_owner(out, first, station, serial)
+}
+
+// The line of a row that ended the book by a split.
+fn split_line(out: &mut [u8], at: usize, row: u8) -> usize
+    requires { ⌜ at + 17 ≤ length (now out) ⌝ }
+    ensures { λ r. ⌜ Wrote (now (out .entry)) at (lineText (splits row)) r (now (out .exit)) ⌝ }
+    ensures { λ r. ⌜ r ≤ at + 17 ⌝ }
+{
+    let first = put_field(out, at, b"split=", row as u32);
+    end_line(out, first)
+}
+
+// The last line.
+fn totals_line(out: &mut [u8], at: usize, scanned: u8, entered: u8, void: u8, waiting: u8) -> usize
+    requires { ⌜ at + 73 ≤ length (now out) ⌝ }
+    ensures { λ r. ⌜ Wrote (now (out .entry)) at (lineText (totals scanned entered void waiting)) r (now (out .exit)) ⌝ }
+{
+    let first = put_field(out, at, b"scanned=", scanned as u32);
+    let second = put_field(out, first, b" entered=", entered as u32);
+    let third = put_field(out, second, b" void=", void as u32);
+    let fourth = put_field(out, third, b" waiting=", waiting as u32);
+    end_line(out, fourth)
+}
+
+// The line of an answer: its number, and a tube unless it is none.
+pub fn answer_line(out: &mut [u8], at: usize, number: u8, tube: u8) -> usize
+    requires { ⌜ at + 34 ≤ length (now out) ⌝ }
+    ensures { λ r. ⌜ Wrote (now (out .entry)) at (answerText number tube) r (now (out .exit)) ⌝ }
+    ensures { λ r. ⌜ r ≤ at + 34 ⌝ }
+{
+    let first = put_field(out, at, b"answer=", number as u32);
+    if tube == rules::Tube::NONE {
+        return end_line(out, first);
+    }
+    let second = put_field(out, first, b" tube=", tube as u32);
+    end_line(out, second)
 }
