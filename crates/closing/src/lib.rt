@@ -1,12 +1,17 @@
 // What the sheet prints, written into a lent buffer.
 ghost use mathlib.Core.Path.{_≡_};
+ghost use mathlib.Core.Bool.{not};
 ghost use mathlib.Core.List.{[], _∷_, _++_};
 ghost use Prim.Native.Nat.{_+_, _*_, _≤_};
 ghost use lib.ListN.{length};
+ghost use Rattle.rules.specs.Tests.{one};
+ghost use Rattle.rules.specs.Words.{Room, State};
+ghost use Rattle.rules.specs.Book.{bookOf, waitingOf};
+ghost use Rattle.rules.specs.Laws.{entered};
 ghost use Rattle.lines.specs.Decimal.{decimal};
 ghost use Rattle.closing.specs.Laws.{OneOwn, TotalsTell};
 ghost use Rattle.closing.specs.Printed.{inFields, answerText, enters, repeats, waits, splits, totals, owner, lineText};
-ghost use Rattle.closing.specs.Given.{Wrote};
+ghost use Rattle.closing.specs.Given.{Wrote, heldIn, Book};
 
 // What the closing lines promise, carried by a function that does nothing.
 pub fn closing_lines()
@@ -125,4 +130,63 @@ pub fn answer_line(out: &mut [u8], at: usize, number: u8, tube: u8) -> usize
     }
     let second = put_field(out, first, b" tube=", tube as u32);
     end_line(out, second)
+}
+
+// Whether a tube stands in one of the first n rows.
+fn held(tubes: [u8; 64], n: u8, tube: u8) -> bool
+    requires { ⌜ n ≤ 64 ⌝ }
+    ensures { λ r. ⌜ r ≡ heldIn tubes n tube ⌝ }
+{
+    let mut k: u8 = 0;
+    while k < n {
+        let other = tubes[k as usize];
+        if other == tube {
+            return true;
+        }
+        k += 1;
+    }
+    false
+}
+
+// 1 for a tube that stands in none of the first n rows, else 0.
+fn missing(tubes: [u8; 64], n: u8, tube: u8) -> u8
+    requires { ⌜ n ≤ 64 ⌝ }
+    ensures { λ r. ⌜ r ≡ one (not (heldIn tubes n tube)) ⌝ }
+    ensures { λ r. ⌜ r ≤ 1 ⌝ }
+{
+    if held(tubes, n, tube) {
+        return 0;
+    }
+    1
+}
+
+// How many rows of the book enter a tube.
+fn count_entered(tubes: [u8; 64], n: u8) -> u8
+    requires { ⌜ n ≤ 64 ⌝ }
+    ensures { λ r. ⌜ ((ρ : Room) (s : State) → Book ρ s tubes n → r ≡ entered (bookOf ρ s)) ⌝ }
+    ensures { λ r. ⌜ r ≤ n ⌝ }
+{
+    let mut count: u8 = 0;
+    let mut k: u8 = 0;
+    while k < n {
+        let tube = tubes[k as usize];
+        count += missing(tubes, k, tube);
+        k += 1;
+    }
+    count
+}
+
+// How many tubes wait.
+fn count_waiting(tubes: [u8; 64], n: u8, scanned: u8) -> u8
+    requires { ⌜ n ≤ 64 ⌝ }
+    requires { ⌜ scanned ≤ 64 ⌝ }
+    ensures { λ r. ⌜ ((ρ : Room) (s : State) → Book ρ s tubes n → scanned ≡ length (s .intake) → r ≡ length (waitingOf ρ s)) ⌝ }
+{
+    let mut count: u8 = 0;
+    let mut k: u8 = 0;
+    while k < scanned {
+        count += missing(tubes, n, k + 1);
+        k += 1;
+    }
+    count
 }
