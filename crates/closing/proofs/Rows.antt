@@ -1,7 +1,7 @@
 -- What the array of the book's tubes says of the book: which tubes stand in it, which rows are void, which tubes wait.
 use mathlib.Core.Path.{_≡_, refl, sym, ap, _∙_}
 use mathlib.Core.Bool.{Bool, true, false, not, _||_}
-use mathlib.Core.List.{List, [], _∷_, _++_, map}
+use mathlib.Core.List.{List, [], _∷_, _++_, map, append-nil, append-assoc}
 use Prim.Native.Nat.{ℕ, suc, _+_, _-_, _≤_, _<_}
 use native.Mathlib.Numerals.{add-one}
 use native.Mathlib.Omega.{arith}
@@ -12,10 +12,11 @@ use Rattle.rules.specs.Tests.{pick, any, keep, upTo, one}
 use Rattle.rules.specs.Words.{Room, State}
 use Rattle.rules.specs.Book.{reach, rowTube, void, entry, bookOf, stands, waitingOf}
 use Rattle.rules.specs.Laws.{entered}
-use Rattle.rules.proofs.Lists.{passed, any-same, any-up, any-next, map-next, keep-next, up-out}
-use Rattle.rules.proofs.Book.{before, entry-next}
+use Rattle.rules.proofs.Lists.{passed, any-same, any-up, any-next, map-append, map-next, keep-next, up-out}
+use Rattle.rules.proofs.Book.{before, row-agreed}
 use Rattle.rules.proofs.Totals.{entered-append}
-use Rattle.closing.specs.Given.{heldIn, Book}
+use Rattle.closing.specs.Printed.{Line, enters, repeats, waits, lineText, linesText, rowLine, waitingLine}
+use Rattle.closing.specs.Given.{heldIn, Book, Scans, rowsText, waitingText}
 use Rattle.closing.proofs.Lines.{row-low}
 
 -- ---- the first rows of the array
@@ -34,11 +35,38 @@ module _ (tubes : List ℕ) (t : ℕ) where
       passed (any (λ r. eqb (getD tubes (r - 1) 0) t) (upTo n))
       (any-up (λ r. eqb (getD tubes (r - 1) 0) t) n .1 (suc k, omega arith, h, rw (d, e) (eqb-refl t)))
 
+-- ---- the lines of a list
+
+pub lines-append : (l m : List Line) → linesText (l ++ m) ≡ linesText l ++ linesText m
+lines-append [] m = refl
+lines-append (x ∷ l) m = rw (lines-append l m, append-assoc)
+
 -- ---- the array holds the book's tubes
 
 -- the waiting among the first k tubes
 abbrev pub waitingTo : Room → State → ℕ → List ℕ
 waitingTo ρ s k = keep (λ t. not (stands ρ s t)) (upTo k)
+
+module _ (ρ : Room) (s : State) (k : ℕ) where
+  pub waiting-next : waitingTo ρ s (k + 1) ≡ waitingTo ρ s k ++ pick (not (stands ρ s (k + 1))) ((k + 1) ∷ []) []
+  waiting-next = rw (add-one, keep-next)
+
+  pub waiting-all : k ≡ length (s .intake) → waitingTo ρ s k ≡ waitingOf ρ s
+  unfolding waitingOf
+  waiting-all e = ap (waitingTo ρ s) e
+
+  -- one row's line more
+  pub rows-next : rowsText ρ s (k + 1) ≡ rowsText ρ s k ++ lineText (rowLine ρ s (k + 1))
+  rows-next = rw (add-one, map-next (rowLine ρ s) k, lines-append (map (rowLine ρ s) (upTo k)), append-nil)
+
+  -- one tube's line more, if it waits
+  pub waiting-text : waitingText s (waitingTo ρ s (k + 1)) ≡ waitingText s (waitingTo ρ s k) ++ waitingText s (pick (not (stands ρ s (k + 1))) ((k + 1) ∷ []) [])
+  waiting-text = rw (waiting-next, map-append (waitingLine s) (waitingTo ρ s k), lines-append (map (waitingLine s) (waitingTo ρ s k)))
+
+pub line-waits : (s : State) (stations serials : List ℕ) (t : ℕ) → Scans s stations serials → 1 ≤ t → t ≤ length (s .intake)
+    → waitingText s (t ∷ []) ≡ lineText (waits t (getD stations (t - 1) 0) (getD serials (t - 1) 0))
+unfolding waitingLine
+line-waits s stations serials t f h k = rw (append-nil, f t h k)
 
 module _ (ρ : Room) (s : State) (tubes : List ℕ) (n : ℕ) (g : Book ρ s tubes n) where
   pub tube-at : (k : ℕ) → k < n → getD tubes k 0 ≡ rowTube ρ s (suc k)
@@ -82,16 +110,26 @@ module _ (ρ : Room) (s : State) (tubes : List ℕ) (n : ℕ) (g : Book ρ s tub
   unfolding bookOf
   entered-all = ap (λ (k : ℕ). entered (map (entry ρ s) (upTo k))) (g .reached)
 
-  pub waiting-next : (k : ℕ) → waitingTo ρ s (k + 1) ≡ waitingTo ρ s k ++ pick (not (heldIn tubes n (k + 1))) ((k + 1) ∷ []) []
-  waiting-next k = rw (add-one, keep-next, held-stands (suc k))
-
   pub waiting-more : (k : ℕ) → length (waitingTo ρ s (k + 1)) ≡ length (waitingTo ρ s k) + one (not (heldIn tubes n (k + 1)))
-  waiting-more k = rw (waiting-next k, length-append) (go (not (heldIn tubes n (k + 1))))
+  waiting-more k = rw (waiting-next ρ s k, length-append, held-stands (k + 1)) (go (not (stands ρ s (k + 1))))
     where
       go : (b : Bool) → length (waitingTo ρ s k) + length (pick b ((k + 1) ∷ []) []) ≡ length (waitingTo ρ s k) + one b
       go true = refl
       go false = refl
 
-  pub waiting-all : (k : ℕ) → k ≡ length (s .intake) → waitingTo ρ s k ≡ waitingOf ρ s
-  unfolding waitingOf
-  waiting-all k e = ap (waitingTo ρ s) e
+  -- ---- lines
+
+  -- the line of a row whose tube an earlier row holds
+  pub line-repeats : (k : ℕ) → k < n → heldIn tubes k (getD tubes k 0) ≡ true → rowLine ρ s (k + 1) ≡ repeats (k + 1) (getD tubes k 0)
+  unfolding rowLine
+  line-repeats k h e = rw (add-one, void-at k h, e) (ap (repeats (suc k)) (sym (tube-at k h)))
+
+  -- and of one whose tube none holds
+  pub line-enters : (stations serials : List ℕ) → Scans s stations serials → (k : ℕ) → k < n → heldIn tubes k (getD tubes k 0) ≡ false
+      → rowLine ρ s (k + 1) ≡ enters (k + 1) (getD tubes k 0) (getD stations (getD tubes k 0 - 1) 0) (getD serials (getD tubes k 0 - 1) 0)
+  unfolding rowLine
+  line-enters stations serials f k h e =
+      let t = rowTube ρ s (suc k) in
+      let l : suc k ≤ reach ρ s = omega (arith, g .reached) in
+      let d = f t (row-low ρ s (suc k) (omega arith) l) (g .scanned (suc k) t (row-agreed ρ s (suc k) (omega arith) l)) in
+      rw (add-one, void-at k h, e, tube-at k h) (ap (λ (x : ℕ × ℕ). enters (suc k) t (x .0) (x .1)) d)

@@ -1,7 +1,7 @@
 -- What the writers are given and what they leave: the book and the intake as arrays, and bytes written at a place.
 use mathlib.Core.Path.{_≡_}
 use mathlib.Core.Bool.{Bool}
-use mathlib.Core.List.{List}
+use mathlib.Core.List.{List, map}
 use Prim.Native.Nat.{ℕ, _+_, _-_, _≤_}
 use lib.Dec.{eqb}
 use lib.ListN.{length, getD}
@@ -10,7 +10,7 @@ use Rattle.rules.specs.Words.{Room, State}
 use Rattle.rules.specs.Lent.{patch}
 use Rattle.rules.specs.Book.{reach, rowTube, stopped}
 use Rattle.rules.specs.Laws.{OnIntake}
-use Rattle.closing.specs.Printed.{scanOf}
+use Rattle.closing.specs.Printed.{linesText, scanOf, rowLine, waitingLine}
 
 -- the bytes ys were written at a place: where they end, and the area afterwards
 pub record Wrote (s : List ℕ) (at : ℕ) (ys : List ℕ) (end : ℕ) (s′ : List ℕ) : Type 0 where
@@ -37,6 +37,13 @@ pub record Book (ρ : Room) (s : State) (tubes : List ℕ) (n : ℕ) : Type 0 wh
 abbrev pub Scans : State → List ℕ → List ℕ → Type 0
 Scans s stations serials = (t : ℕ) → 1 ≤ t → t ≤ length (s .intake) → scanOf s t ≡ (getD stations (t - 1) 0, getD serials (t - 1) 0)
 
+-- the lines of the first k rows, and of waiting tubes
+abbrev pub rowsText : Room → State → ℕ → List ℕ
+rowsText ρ s k = linesText (map (rowLine ρ s) (upTo k))
+
+abbrev pub waitingText : State → List ℕ → List ℕ
+waitingText s l = linesText (map (waitingLine s) l)
+
 -- all that the closing lines are made of is that of the room ρ and what stands in it, s
 pub record Given (ρ : Room) (s : State) (tubes : List ℕ) (n : ℕ) (split : Bool) (stations serials : List ℕ) (scanned : ℕ) : Type 0 where
   pub few : n ≤ 64
@@ -45,3 +52,7 @@ pub record Given (ρ : Room) (s : State) (tubes : List ℕ) (n : ℕ) (split : B
   pub stop : split ≡ eqb (stopped ρ s) 2
   pub count : scanned ≡ length (s .intake)
   pub scans : Scans s stations serials
+
+-- there is such a room
+abbrev pub Known : List ℕ → ℕ → Bool → List ℕ → List ℕ → ℕ → Type 0
+Known tubes n split stations serials scanned = (ρ : Room) × (s : State) × Given ρ s tubes n split stations serials scanned

@@ -2,16 +2,17 @@
 ghost use mathlib.Core.Path.{_≡_};
 ghost use mathlib.Core.Bool.{not};
 ghost use mathlib.Core.List.{[], _∷_, _++_};
-ghost use Prim.Native.Nat.{_+_, _*_, _≤_};
-ghost use lib.ListN.{length};
-ghost use Rattle.rules.specs.Tests.{one};
+ghost use Prim.Native.Nat.{ℕ, _+_, _*_, _≤_, _<_};
+ghost use lib.ListN.{length, getD};
+ghost use Rattle.rules.specs.Tests.{pick, one};
 ghost use Rattle.rules.specs.Words.{Room, State};
-ghost use Rattle.rules.specs.Book.{bookOf, waitingOf};
+ghost use Rattle.rules.specs.Lent.{patch};
+ghost use Rattle.rules.specs.Book.{bookOf, stands, waitingOf};
 ghost use Rattle.rules.specs.Laws.{entered};
 ghost use Rattle.lines.specs.Decimal.{decimal};
 ghost use Rattle.closing.specs.Laws.{OneOwn, TotalsTell};
-ghost use Rattle.closing.specs.Printed.{inFields, answerText, enters, repeats, waits, splits, totals, owner, lineText};
-ghost use Rattle.closing.specs.Given.{Wrote, heldIn, Book};
+ghost use Rattle.closing.specs.Printed.{inFields, answerText, enters, repeats, waits, splits, totals, owner, lineText, linesText, rowLine, closingOf};
+ghost use Rattle.closing.specs.Given.{Wrote, heldIn, Rows, Book, Scans, rowsText, waitingText, Given, Known};
 
 // What the closing lines promise, carried by a function that does nothing.
 pub fn closing_lines()
@@ -189,4 +190,141 @@ fn count_waiting(tubes: [u8; 64], n: u8, scanned: u8) -> u8
         k += 1;
     }
     count
+}
+
+// The line of row k + 1.
+fn put_row(
+    out: &mut [u8],
+    at: usize,
+    tubes: [u8; 64],
+    k: u8,
+    stations: [u8; 64],
+    serials: [u32; 64],
+) -> usize
+    requires { ⌜ k < 64 ⌝ }
+    requires { ⌜ (1 ≤ getD tubes k 0) × (getD tubes k 0 ≤ 64) ⌝ }
+    requires { ⌜ at + 68 ≤ length (now out) ⌝ }
+    ensures { λ r. ⌜ ((ρ : Room) (s : State) (n : ℕ) → Book ρ s tubes n → k < n → Scans s stations serials
+        → Wrote (now (out .entry)) at (lineText (rowLine ρ s (k + 1))) r (now (out .exit))) ⌝ }
+    ensures { λ r. ⌜ r ≤ at + 68 ⌝ }
+{
+    let tube = tubes[k as usize];
+    if held(tubes, k, tube) {
+        return void_line(out, at, k + 1, tube);
+    }
+    let place = (tube - 1) as usize;
+    let station = stations[place];
+    let serial = serials[place];
+    row_line(out, at, k + 1, tube, station, serial)
+}
+
+// The lines of the book's rows, at the front.
+fn write_rows(
+    out: &mut [u8],
+    tubes: [u8; 64],
+    n: u8,
+    stations: [u8; 64],
+    serials: [u32; 64],
+) -> usize
+    requires { ⌜ Rows tubes n ⌝ }
+    requires { ⌜ 4352 ≤ length (now out) ⌝ }
+    ensures { λ r. ⌜ ((ρ : Room) (s : State) → Book ρ s tubes n → Scans s stations serials
+        → Wrote (now (out .entry)) 0 (rowsText ρ s n) r (now (out .exit))) ⌝ }
+    ensures { λ r. ⌜ r ≤ 68 * n ⌝ }
+{
+    let mut at: usize = 0;
+    let mut k: u8 = 0;
+    while k < n {
+        at = put_row(out, at, tubes, k, stations, serials);
+        k += 1;
+    }
+    at
+}
+
+// The line of a tube, if it waits.
+fn put_waiting(
+    out: &mut [u8],
+    at: usize,
+    tubes: [u8; 64],
+    n: u8,
+    tube: u8,
+    stations: [u8; 64],
+    serials: [u32; 64],
+) -> usize
+    requires { ⌜ n ≤ 64 ⌝ }
+    requires { ⌜ (1 ≤ tube) × (tube ≤ 64) ⌝ }
+    requires { ⌜ at + 56 ≤ length (now out) ⌝ }
+    ensures { λ r. ⌜ ((ρ : Room) (s : State) → Book ρ s tubes n → tube ≤ length (s .intake) → Scans s stations serials
+        → Wrote (now (out .entry)) at (waitingText s (pick (not (stands ρ s tube)) (tube ∷ []) [])) r (now (out .exit))) ⌝ }
+    ensures { λ r. ⌜ r ≤ at + 56 ⌝ }
+{
+    if held(tubes, n, tube) {
+        return at;
+    }
+    let place = (tube - 1) as usize;
+    let station = stations[place];
+    let serial = serials[place];
+    waiting_line(out, at, tube, station, serial)
+}
+
+// The lines of the waiting tubes, by number.
+fn write_waiting(
+    out: &mut [u8],
+    from: usize,
+    tubes: [u8; 64],
+    n: u8,
+    stations: [u8; 64],
+    serials: [u32; 64],
+    scanned: u8,
+) -> usize
+    requires { ⌜ n ≤ 64 ⌝ }
+    requires { ⌜ scanned ≤ 64 ⌝ }
+    requires { ⌜ from + 3584 ≤ length (now out) ⌝ }
+    ensures { λ r. ⌜ ((ρ : Room) (s : State) → Book ρ s tubes n → scanned ≡ length (s .intake) → Scans s stations serials
+        → Wrote (now (out .entry)) from (waitingText s (waitingOf ρ s)) r (now (out .exit))) ⌝ }
+    ensures { λ r. ⌜ r ≤ from + 56 * scanned ⌝ }
+{
+    let mut at = from;
+    let mut k: u8 = 0;
+    while k < scanned {
+        at = put_waiting(out, at, tubes, n, k + 1, stations, serials);
+        k += 1;
+    }
+    at
+}
+
+// The line of the row after the book, if it stopped by a split.
+fn write_split(out: &mut [u8], at: usize, split: bool, n: u8) -> usize
+    requires { ⌜ n ≤ 64 ⌝ }
+    requires { ⌜ at + 17 ≤ length (now out) ⌝ }
+    ensures { λ r. ⌜ Wrote (now (out .entry)) at (linesText (pick split (splits (n + 1) ∷ []) [])) r (now (out .exit)) ⌝ }
+    ensures { λ r. ⌜ r ≤ at + 17 ⌝ }
+{
+    if split {
+        return split_line(out, at, n + 1);
+    }
+    at
+}
+
+// The closing lines of a sheet: the book's rows, the waiting tubes, a split, the totals.
+pub fn write_closing(
+    tubes: [u8; 64],
+    reach: u8,
+    split: bool,
+    stations: [u8; 64],
+    serials: [u32; 64],
+    scanned: u8,
+    out: &mut [u8],
+) -> usize
+    requires { ⌜ Known tubes reach split stations serials scanned ⌝ }
+    requires { ⌜ 8192 ≤ length (now out) ⌝ }
+    ensures { λ r. ⌜ ((ρ : Room) (s : State) → Given ρ s tubes reach split stations serials scanned
+        → (r ≡ length (closingOf ρ s)) × (now (out .exit) ≡ patch (now (out .entry)) 0 (closingOf ρ s))) ⌝ }
+{
+    let rows = write_rows(out, tubes, reach, stations, serials);
+    let waiting = write_waiting(out, rows, tubes, reach, stations, serials, scanned);
+    let at = write_split(out, waiting, split, reach);
+    let entered = count_entered(tubes, reach);
+    let left = count_waiting(tubes, reach, scanned);
+    totals_line(out, at, scanned, entered, reach - entered, left)
 }

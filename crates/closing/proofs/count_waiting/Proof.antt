@@ -53,7 +53,7 @@ returns c =
     let l = c .before .loop in
     let a = c .before .before .args in
     let e : l .k ≡ a .scanned = omega arith in
-    λ ρ s g h. l .inv .0 ρ s g ∙ ap length (waiting-all ρ s (a .tubes) (a .n) g (l .k) (e ∙ h))
+    λ ρ s g h. l .inv .0 ρ s g ∙ ap length (waiting-all ρ s (l .k) (e ∙ h))
 
 pub count-waiting-spec : {M : Type 1} → statement M
 count-waiting-spec =
