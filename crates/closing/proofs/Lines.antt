@@ -13,7 +13,7 @@ use Rattle.rules.specs.Tests.{pick, one, upTo}
 use Rattle.rules.specs.Words.{Room, State}
 use Rattle.rules.specs.Book.{reach, rowTube, void, entry, bookOf, waitingOf, stopped}
 use Rattle.rules.specs.Laws.{occurs, entered, voids}
-use Rattle.rules.proofs.Sound.{and-l}
+use Rattle.rules.proofs.Sound.{and-l, and-r}
 use Rattle.rules.proofs.Lists.{up-out}
 use Rattle.rules.proofs.Outcome.{one-chosen}
 use Rattle.rules.proofs.Book.{row-agreed}
@@ -106,11 +106,12 @@ one-own ρ s t h k =
 
 -- ---- totals
 
--- a row of the book has a tube
-pub row-low : (ρ : Room) (s : State) (r : ℕ) → 1 ≤ r → r ≤ reach ρ s → 1 ≤ rowTube ρ s r
-row-low ρ s r h k =
+-- a row of the book has a tube, 1 to 64
+pub row-tube : (ρ : Room) (s : State) (r : ℕ) → 1 ≤ r → r ≤ reach ρ s → (1 ≤ rowTube ρ s r) × (rowTube ρ s r ≤ 64)
+row-tube ρ s r h k =
     let v = rowTube ρ s r in
-    leb→le 1 v (and-l (leb 1 v) (leb v 64) (one-chosen ρ s r v .0 (row-agreed ρ s r h k) .0 .0))
+    let t = one-chosen ρ s r v .0 (row-agreed ρ s r h k) .0 .0 in
+    (leb→le 1 v (and-l (leb 1 v) (leb v 64) t), leb→le v 64 (and-r (leb 1 v) (leb v 64) t))
 
 enters-row : (ρ : Room) (s : State) (r : ℕ) → 1 ≤ r → r ≤ reach ρ s → isEnters (rowLine ρ s r) ≡ not (eqb (entry ρ s r) 0)
 unfolding rowLine entry
@@ -118,7 +119,7 @@ enters-row ρ s r h k = go (void ρ s r)
   where
     go : (b : Bool) → isEnters (pick b (repeats r (rowTube ρ s r)) (enterLine s r (rowTube ρ s r))) ≡ not (eqb (pick b 0 (rowTube ρ s r)) 0)
     go true = refl
-    go false = rw (ne-eqb (rowTube ρ s r) 0 (λ e. omega (arith, row-low ρ s r h k)))
+    go false = rw (ne-eqb (rowTube ρ s r) 0 (λ e. omega (arith, row-tube ρ s r h k .0)))
 
 repeats-row : (ρ : Room) (s : State) (r : ℕ) → 1 ≤ r → r ≤ reach ρ s → isRepeats (rowLine ρ s r) ≡ eqb (entry ρ s r) 0
 unfolding rowLine entry
@@ -126,7 +127,7 @@ repeats-row ρ s r h k = go (void ρ s r)
   where
     go : (b : Bool) → isRepeats (pick b (repeats r (rowTube ρ s r)) (enterLine s r (rowTube ρ s r))) ≡ eqb (pick b 0 (rowTube ρ s r)) 0
     go true = refl
-    go false = rw (ne-eqb (rowTube ρ s r) 0 (λ e. omega (arith, row-low ρ s r h k)))
+    go false = rw (ne-eqb (rowTube ρ s r) 0 (λ e. omega (arith, row-tube ρ s r h k .0)))
 
 waits-row : (ρ : Room) (s : State) (r : ℕ) → isWaits (rowLine ρ s r) ≡ false
 unfolding rowLine

@@ -10,14 +10,14 @@ use lib.Dec.{T, eqb, eqb-refl}
 use lib.ListN.{length, getD, length-append}
 use Rattle.rules.specs.Tests.{pick, any, keep, upTo, one}
 use Rattle.rules.specs.Words.{Room, State}
-use Rattle.rules.specs.Book.{reach, rowTube, void, entry, bookOf, stands, waitingOf}
+use Rattle.rules.specs.Book.{reach, rowTube, void, entry, bookOf, stands, waitingOf, stopped}
 use Rattle.rules.specs.Laws.{entered}
 use Rattle.rules.proofs.Lists.{passed, any-same, any-up, any-next, map-append, map-next, keep-next, up-out}
-use Rattle.rules.proofs.Book.{before, row-agreed}
+use Rattle.rules.proofs.Book.{before, row-agreed, book-length}
 use Rattle.rules.proofs.Totals.{entered-append}
-use Rattle.closing.specs.Printed.{Line, enters, repeats, waits, lineText, linesText, rowLine, waitingLine}
-use Rattle.closing.specs.Given.{heldIn, Book, Scans, rowsText, waitingText}
-use Rattle.closing.proofs.Lines.{row-low}
+use Rattle.closing.specs.Printed.{Line, enters, repeats, waits, splits, totals, lineText, linesText, rowLine, waitingLine, splitLine, totalsLine, linesOf, closingOf}
+use Rattle.closing.specs.Given.{heldIn, Rows, Book, Scans, rowsText, waitingText}
+use Rattle.closing.proofs.Lines.{row-tube}
 
 -- ---- the first rows of the array
 
@@ -100,7 +100,7 @@ module _ (ρ : Room) (s : State) (tubes : List ℕ) (n : ℕ) (g : Book ρ s tub
       rw (add-one, map-next, entered-append, void-at k h) (go (heldIn tubes k (getD tubes k 0)))
     where
       low : 1 ≤ rowTube ρ s (suc k)
-      low = row-low ρ s (suc k) (omega arith) (omega (arith, g .reached))
+      low = row-tube ρ s (suc k) (omega arith) (omega (arith, g .reached)) .0
 
       go : (b : Bool) → entered (map (entry ρ s) (upTo k)) + entered (pick b 0 (rowTube ρ s (suc k)) ∷ []) ≡ entered (map (entry ρ s) (upTo k)) + one (not b)
       go true = refl
@@ -131,5 +131,35 @@ module _ (ρ : Room) (s : State) (tubes : List ℕ) (n : ℕ) (g : Book ρ s tub
   line-enters stations serials f k h e =
       let t = rowTube ρ s (suc k) in
       let l : suc k ≤ reach ρ s = omega (arith, g .reached) in
-      let d = f t (row-low ρ s (suc k) (omega arith) l) (g .scanned (suc k) t (row-agreed ρ s (suc k) (omega arith) l)) in
+      let d = f t (row-tube ρ s (suc k) (omega arith) l .0) (g .scanned (suc k) t (row-agreed ρ s (suc k) (omega arith) l)) in
       rw (add-one, void-at k h, e, tube-at k h) (ap (λ (x : ℕ × ℕ). enters (suc k) t (x .0) (x .1)) d)
+
+  -- each row has a tube, 1 to 64
+  pub rows-known : n ≤ 64 → Rows tubes n
+  rows-known h =
+      record {
+        few = h;
+        low = λ r a b. rw (g .holds r a b) (row-tube ρ s r a (omega (arith, g .reached)) .0);
+        high = λ r a b. rw (g .holds r a b) (row-tube ρ s r a (omega (arith, g .reached)) .1);
+      }
+
+-- ---- the whole
+
+-- the closing lines, part by part
+pub parts : (ρ : Room) (s : State) (n scanned e w : ℕ) (split : Bool) → n ≡ reach ρ s → scanned ≡ length (s .intake) → split ≡ eqb (stopped ρ s) 2 → e ≡ entered (bookOf ρ s) → w ≡ length (waitingOf ρ s)
+    → rowsText ρ s n ++ (waitingText s (waitingOf ρ s) ++ (linesText (pick split (splits (n + 1) ∷ []) []) ++ lineText (totals scanned e (n - e) w))) ≡ closingOf ρ s
+unfolding closingOf linesOf splitLine totalsLine
+parts ρ s n scanned e w split a b c d f =
+    rw (
+      b,
+      c,
+      d,
+      f,
+      a,
+      add-one,
+      book-length,
+      lines-append (map (rowLine ρ s) (upTo (reach ρ s))),
+      lines-append (map (waitingLine s) (waitingOf ρ s)),
+      lines-append (pick (eqb (stopped ρ s) 2) (splits (suc (reach ρ s)) ∷ []) []),
+      append-nil,
+    )
