@@ -1,0 +1,49 @@
+-- `row_line` meets its contract: two fields and the owner, one after another.
+use native.Mathlib.Omega.{arith}
+use borrow.Author.Needs.{needs}
+use Rattle.closing.specs.Printed.{lineText}
+use Rattle.closing.proofs.Writing.{wrote-on}
+use Rattle.closing.proofs.row_line.Statement.{statement}
+use Rattle.closing.proofs.row_line.Tie as tie
+use Rattle.closing.proofs.row_line.Reads as reads
+use Rattle.closing.proofs.row_line.Lts as lts
+use Rattle.closing.proofs.put_field.Reads as put-field-reads
+use Rattle.closing.proofs.put_owner.Reads as put-owner-reads
+
+slice-aggregate-put-field : tie.Need-slice-aggregate-put-field
+slice-aggregate-put-field c = search needs
+
+put-field-requires : tie.Need-put-field-requires
+put-field-requires c κs = search needs
+
+slice-aggregate-put-field-2 : tie.Need-slice-aggregate-put-field-2
+slice-aggregate-put-field-2 c = search needs
+
+put-field-requires-2 : tie.Need-put-field-requires-2
+put-field-requires-2 c κs = search needs
+
+put-owner-requires : tie.Need-put-owner-requires
+put-owner-requires c κs = search needs
+
+same-length : tie.Need-same-length
+same-length c = search needs
+
+returns : tie.Need-returns
+unfolding lineText
+returns c =
+    let one = c .before .before .before .before .before .before .before .before .before .before .before .put-field in
+    let two = c .before .before .before .before .before .before .put-field2 in
+    let end = c .before .before .put-owner in
+    (wrote-on (omega arith) (one .ensures .0) (wrote-on (omega arith) (two .ensures .0) (end .ensures .0)), omega (arith, end .ensures))
+
+pub row-line-spec : {M : Type 1} → statement M
+row-line-spec =
+    tie.close
+    (tie.spec
+    slice-aggregate-put-field
+    put-field-requires
+    slice-aggregate-put-field-2
+    put-field-requires-2
+    put-owner-requires
+    same-length
+    returns)

@@ -1,0 +1,49 @@
+-- `void_line` meets its contract: two fields and the newline, one after another.
+use native.Mathlib.Omega.{arith}
+use borrow.Author.Needs.{needs}
+use Rattle.closing.specs.Printed.{lineText}
+use Rattle.closing.proofs.Writing.{wrote-on}
+use Rattle.closing.proofs.void_line.Statement.{statement}
+use Rattle.closing.proofs.void_line.Tie as tie
+use Rattle.closing.proofs.void_line.Reads as reads
+use Rattle.closing.proofs.void_line.Lts as lts
+use Rattle.closing.proofs.end_line.Reads as end-line-reads
+use Rattle.closing.proofs.put_field.Reads as put-field-reads
+
+slice-aggregate-put-field : tie.Need-slice-aggregate-put-field
+slice-aggregate-put-field c = search needs
+
+put-field-requires : tie.Need-put-field-requires
+put-field-requires c κs = search needs
+
+slice-aggregate-put-field-2 : tie.Need-slice-aggregate-put-field-2
+slice-aggregate-put-field-2 c = search needs
+
+put-field-requires-2 : tie.Need-put-field-requires-2
+put-field-requires-2 c κs = search needs
+
+end-line-requires : tie.Need-end-line-requires
+end-line-requires c κs = search needs
+
+same-length : tie.Need-same-length
+same-length c = search needs
+
+returns : tie.Need-returns
+unfolding lineText
+returns c =
+    let one = c .before .before .before .before .before .before .before .before .before .before .before .put-field in
+    let two = c .before .before .before .before .before .before .put-field2 in
+    let end = c .before .before .end-line in
+    (wrote-on (omega arith) (one .ensures .0) (wrote-on (omega arith) (two .ensures .0) (end .ensures)), omega (arith, end .ensures))
+
+pub void-line-spec : {M : Type 1} → statement M
+void-line-spec =
+    tie.close
+    (tie.spec
+    slice-aggregate-put-field
+    put-field-requires
+    slice-aggregate-put-field-2
+    put-field-requires-2
+    end-line-requires
+    same-length
+    returns)
