@@ -5,6 +5,10 @@ ghost use Rattle.rules.specs.Lent.{memory};
 ghost use Rattle.rules.specs.Steps as steps;
 ghost use Rattle.rules.specs.Steps.{c1a, c1b, c1c};
 ghost use Rattle.rules.specs.Replies.{answerOf, bare, Did};
+
+pub mod posts; // posts.rt: the foreign post
+pub mod votes; // votes.rt: 2av and 2b
+
 use rules::Ballot;
 use rules::House;
 use rules::Node;

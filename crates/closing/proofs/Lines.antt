@@ -19,7 +19,7 @@ use Rattle.rules.proofs.Outcome.{one-chosen}
 use Rattle.rules.proofs.Book.{row-agreed}
 use Rattle.rules.proofs.OneLine.{one-line}
 use Rattle.rules.proofs.Totals.{zeros, totals as entered-and-waiting}
-use Rattle.closing.specs.Printed.{Line, enters, repeats, waits, splits, totals, enterLine, rowLine, waitingLine, splitLine, totalsLine, linesOf}
+use Rattle.closing.specs.Printed.{Line, repeats, splits, totals, enterLine, rowLine, waitingLine, splitLine, totalsLine, linesOf}
 use Rattle.closing.specs.Laws.{howMany, own, OneOwn, isEnters, isRepeats, isWaits, Tells, TotalsTell}
 
 -- ---- how many numbers of a list pass

@@ -5,8 +5,8 @@ use mathlib.Core.List.{List, [], _∷_, _++_, map, append-nil, append-assoc}
 use Prim.Native.Nat.{ℕ, suc, _+_, _-_, _≤_, _<_}
 use native.Mathlib.Numerals.{add-one}
 use native.Mathlib.Omega.{arith}
-use borrow.Author.Tests.{eq-eqb, ne-eqb}
-use lib.Dec.{T, eqb, eqb-refl}
+use borrow.Author.Tests.{ne-eqb}
+use lib.Dec.{eqb, eqb-refl}
 use lib.ListN.{length, getD, length-append}
 use Rattle.rules.specs.Tests.{pick, any, keep, upTo, one}
 use Rattle.rules.specs.Words.{Room, State}

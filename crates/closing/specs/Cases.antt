@@ -50,8 +50,8 @@ cases =
     case (single 0 1 16) (scan 3 70 ∷ scan 4 70 ∷ booked 1 0 2)
     (text "answer=0\nanswer=0 tube=1\nanswer=0 tube=2\nanswer=0\nanswer=0\nanswer=0\nanswer=0\nanswer=0\nanswer=0\nrow=1 tube=2 station=4 serial=70\nwaiting=1 station=3 serial=70\nscanned=2 entered=1 void=0 waiting=1\n")
     -- a void row names the tube it repeats, and enters none; a known scan tells its old tube; a refused step tells no more
-    ∷ case (single 0 3 16) (scan 200 4294967295 ∷ scan 0 0 ∷ scan 200 4294967295 ∷ scan 256 0 ∷ foreign (p2b 1 0 0 2) ∷ foreign (p2b 2 0 0 2) ∷ [])
-    (text "answer=0\nanswer=0 tube=1\nanswer=0 tube=2\nanswer=0 tube=1\nanswer=6\nanswer=0\nanswer=0\nrow=1 tube=2 station=0 serial=0\nrow=2 void=2\nwaiting=1 station=200 serial=4294967295\nscanned=2 entered=1 void=1 waiting=1\n")
+    ∷ case (single 0 3 16) (scan 200 4294967295 ∷ scan 0 0 ∷ scan 200 4294967295 ∷ scan 256 0 ∷ scan 7 1234567890 ∷ foreign (p2b 1 0 0 3) ∷ foreign (p2b 2 0 0 3) ∷ [])
+    (text "answer=0\nanswer=0 tube=1\nanswer=0 tube=2\nanswer=0 tube=1\nanswer=6\nanswer=0 tube=3\nanswer=0\nanswer=0\nrow=1 tube=3 station=7 serial=1234567890\nrow=2 void=3\nwaiting=1 station=200 serial=4294967295\nwaiting=2 station=0 serial=0\nscanned=3 entered=1 void=1 waiting=2\n")
     -- a split row ends the book, and its tubes wait
     ∷ case (single 0 3 16) (scan 3 70 ∷ scan 4 70 ∷ foreign (p2b 1 0 0 1) ∷ foreign (p2b 2 0 0 1) ∷ foreign (p2b 2 1 0 2) ∷ [])
     (text "answer=0\nanswer=0 tube=1\nanswer=0 tube=2\nanswer=0\nanswer=0\nanswer=0\nrow=1 tube=1 station=3 serial=70\nwaiting=2 station=4 serial=70\nsplit=2\nscanned=2 entered=1 void=0 waiting=1\n")

@@ -1,5 +1,5 @@
 -- "Chosen, book and sheet": what the sheet prints, line by line and to the byte.
-use mathlib.Core.Bool.{Bool, true, false}
+use mathlib.Core.Bool.{Bool}
 use mathlib.Core.List.{List, [], _∷_, _++_, map}
 use Prim.Native.Nat.{ℕ, suc, _-_}
 use Prim.Native.String.{String}

@@ -1,16 +1,13 @@
 -- An accepted step of a node, which posts a message and sets the node's cell: what its writer may do, and what it leaves.
 use mathlib.Core.Path.{_≡_, ap, sym, subst, _∙_}
-use mathlib.Core.Bool.{Bool, true, false, _&&_}
 use mathlib.Core.List.{List}
 use Prim.Native.Nat.{ℕ, suc, _*_, _<_}
-use native.Mathlib.Omega.{arith}
-use lib.Dec.{T, ltb→lt}
+use lib.Dec.{ltb→lt}
 use lib.ListN.{length}
-use Rattle.rules.specs.Tests.{pick, first}
 use Rattle.rules.specs.Words.{Msg, Cell, Pair}
-use Rattle.rules.specs.Lent.{Memory, memory, patch, stored, encode, storedCell, place, roomOf, read, Typed, counts, long, inForm}
+use Rattle.rules.specs.Lent.{Memory, memory, patch, stored, encode, storedCell, place, roomOf, read}
 use Rattle.rules.specs.Steps.{Call, c2av, acts, without, effect, write}
-use Rattle.rules.specs.Replies.{rules, areas, reply, after}
+use Rattle.rules.specs.Replies.{reply, after}
 use Rattle.rules.specs.declared.House.{House}
 use Rattle.rules.specs.declared.Message.{Message}
 use Rattle.rules.specs.declared.Cell as stored-cell
@@ -23,21 +20,6 @@ use Rattle.kept.proofs.Ready.{passed, ready, form}
 use Rattle.kept.proofs.Stay.{done}
 use Rattle.judge.proofs.Past.{whole-sized}
 use Rattle.write.proofs.Acts.{postable, posted, cell-after}
-
--- ---- memory that accepts a call is whole
-
-through : (a b d e : Bool) (k : ℕ) → pick a (pick (b && d) (pick e k 17) 5) 17 ≡ 0 → T a × T b × T e
-through true true true true k z = (tt, tt, tt)
-through true true true false k z = absurd (omega arith)
-through true true false e k z = absurd (omega arith)
-through true false d e k z = absurd (omega arith)
-through false b d e k z = absurd (omega arith)
-
-pub accepting : (m : Memory) (c : Call) → Typed (m .house) → reply m c ≡ 0 → Whole m
-unfolding reply
-accepting m c t z =
-    let g = through (counts (m .house)) (long m) (areas (m .house) c) (inForm m) (first (rules (roomOf (m .house)) (read m) c)) z in
-    record { typed = t; counts = g .0; long = g .1; form = g .2 }
 
 -- ---- a cell's struct with other fields is how the cell with those fields is stored
 
@@ -58,10 +40,10 @@ pub record Acts (m : Memory) (c : Call) (x : Msg) (r n : ℕ) (d : Cell) : Type 
   pub seat : At (roomOf (m .house)) r n
   pub leaves : after m c ≡ write m (acts x r n d)
 
-pub accepted : (m : Memory) (c : Call) (x : Msg) (r n : ℕ) (d : Cell) → Typed (m .house) → reply m c ≡ 0 → effect (read m) c ≡ acts x r n d → Acts m c x r n d
-accepted m c x r n d t z e =
-    let y = subst (Ready m) e (ready m c (passed m c t z)) in
-    record { whole = accepting m c t z; sends = y .0; seat = y .1 .0; leaves = done m c z ∙ ap (write m) e }
+pub accepted : (m : Memory) (c : Call) (x : Msg) (r n : ℕ) (d : Cell) → Whole m → reply m c ≡ 0 → effect (read m) c ≡ acts x r n d → Acts m c x r n d
+accepted m c x r n d w z e =
+    let y = subst (Ready m) e (ready m c (passed m c (w .typed) z)) in
+    record { whole = w; sends = y .0; seat = y .1 .0; leaves = done m c z ∙ ap (write m) e }
 
 module _ {m : Memory} {c : Call} {x : Msg} {r n : ℕ} {d : Cell} (a : Acts m c x r n d) where
   pub may-post : (y : Message) → y ≡ stored x → Postable (m .house) (m .board) y
@@ -75,5 +57,5 @@ module _ {m : Memory} {c : Call} {x : Msg} {r n : ℕ} {d : Cell} (a : Acts m c 
   acted y k s h′ b′ c′ e g f p q = cell-after m x r n d s k (posted m x y e (a .sends .small) p) f g q ∙ sym (a .leaves)
 
 -- an accepted 2av finds fewer than sixteen pairs for other tubes
-pub relay-room : (m : Memory) (r n b v : ℕ) → Typed (m .house) → reply m (c2av r n b v) ≡ 0 → length (without v ((read m .cells r n) .pairs)) < 16
-relay-room m r n b v t z = ltb→lt (length (without v ((read m .cells r n) .pairs))) 16 (passed m (c2av r n b v) t z .needs .1 .1 .1 .1 .0)
+pub relay-room : (m : Memory) (r n b v : ℕ) → Whole m → reply m (c2av r n b v) ≡ 0 → length (without v ((read m .cells r n) .pairs)) < 16
+relay-room m r n b v w z = ltb→lt (length (without v ((read m .cells r n) .pairs))) 16 (passed m (c2av r n b v) (w .typed) z .needs .1 .1 .1 .1 .0)

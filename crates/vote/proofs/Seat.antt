@@ -1,10 +1,8 @@
 -- A node's cell in whole memory, as the code reads it: at k, the struct o.
 use mathlib.Core.Path.{_≡_, ap, sym, _∙_}
-use mathlib.Core.List.{List}
 use Prim.Native.Nat.{ℕ, _+_, _*_, _≤_, _<_}
-use native.Mathlib.Omega.{arith}
 use lib.ListN.{length}
-use Rattle.rules.specs.Words.{heightOf, Pair, Cell}
+use Rattle.rules.specs.Words.{heightOf, Cell}
 use Rattle.rules.specs.Lent.{Memory, pairsOf, cellAt, meaningCell, storedCell, place, roomOf, read}
 use Rattle.rules.specs.declared.Cell as stored-cell
 use Rattle.rules.proofs.Codec.{At}

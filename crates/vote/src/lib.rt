@@ -126,9 +126,12 @@ pub fn act_2b(
     ballot: Ballot,
     tube: Tube,
 ) -> House
+    requires { ⌜ Whole (memory h (now board) (now cells) (now heard)) ⌝ }
     requires { ⌜ reply (memory h (now board) (now cells) (now heard)) (c2b (row .0) (node .0) (ballot .0) (tube .0)) ≡ 0 ⌝ }
     ensures { λ r. ⌜ memory r (now (board .exit)) (now (cells .exit)) (now (heard .entry)) ≡ after (memory h (now (board .entry)) (now (cells .entry)) (now (heard .entry))) (c2b (row .0) (node .0) (ballot .0) (tube .0)) ⌝ }
 {
+    let m = board::bare(5, row, ballot, node, tube);
+    let out = board::post(h, board, m);
     let k = cell::place(h.rows, row, node);
     let c = cell::cell_at(cells, k);
     let pairs = c.pairs;
@@ -140,8 +143,7 @@ pub fn act_2b(
         pairs: pairs,
     };
     cell::set_cell(cells, k, moved);
-    let m = board::bare(5, row, ballot, node, tube);
-    board::post(h, board, m)
+    out
 }
 
 // maxBal becomes the ballot; pairs for this tube are removed, the rest close up, and (tube, ballot) is put last.
@@ -155,9 +157,12 @@ pub fn act_2av(
     ballot: Ballot,
     tube: Tube,
 ) -> House
+    requires { ⌜ Whole (memory h (now board) (now cells) (now heard)) ⌝ }
     requires { ⌜ reply (memory h (now board) (now cells) (now heard)) (c2av (row .0) (node .0) (ballot .0) (tube .0)) ≡ 0 ⌝ }
     ensures { λ r. ⌜ memory r (now (board .exit)) (now (cells .exit)) (now (heard .entry)) ≡ after (memory h (now (board .entry)) (now (cells .entry)) (now (heard .entry))) (c2av (row .0) (node .0) (ballot .0) (tube .0)) ⌝ }
 {
+    let m = board::bare(4, row, ballot, node, tube);
+    let out = board::post(h, board, m);
     let k = cell::place(h.rows, row, node);
     let c = cell::cell_at(cells, k);
     let old = c.pairs;
@@ -171,6 +176,5 @@ pub fn act_2av(
         pairs: pairs,
     };
     cell::set_cell(cells, k, moved);
-    let m = board::bare(4, row, ballot, node, tube);
-    board::post(h, board, m)
+    out
 }

@@ -1,21 +1,17 @@
 -- `count_entered` meets its contract: each turn counts one row more.
-use mathlib.Core.Path.{_≡_, refl, sym, ap, _∙_}
+use mathlib.Core.Path.{_≡_, refl, _∙_}
 use mathlib.Core.List.{map}
-use Prim.Native.Nat.{ℕ, _+_, _-_, _≤_}
+use Prim.Native.Nat.{_-_, _≤_}
 use native.Mathlib.Omega.{arith}
 use borrow.Author.Needs.{needs}
-use lib.ListN.{length, getD}
 use Rattle.rules.specs.Tests.{upTo}
 use Rattle.rules.specs.Words.{Room, State}
 use Rattle.rules.specs.Book.{entry}
 use Rattle.rules.specs.Laws.{entered}
-use Rattle.closing.specs.Given.{heldIn, Book}
+use Rattle.closing.specs.Given.{Book}
 use Rattle.closing.proofs.Rows.{entered-next, entered-all}
 use Rattle.closing.proofs.count_entered.Statement.{statement}
 use Rattle.closing.proofs.count_entered.Tie as tie
-use Rattle.closing.proofs.count_entered.Reads as reads
-use Rattle.closing.proofs.count_entered.Lts as lts
-use Rattle.closing.proofs.missing.Reads as missing-reads
 
 abbrev Inv-loop : tie.InvT-loop
 Inv-loop n tubes count₀ k₀ count k =

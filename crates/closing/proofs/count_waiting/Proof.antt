@@ -1,21 +1,14 @@
 -- `count_waiting` meets its contract: each turn counts one tube more.
-use mathlib.Core.Path.{_≡_, refl, sym, ap, _∙_}
-use mathlib.Core.List.{map}
-use Prim.Native.Nat.{ℕ, _+_, _-_, _≤_}
+use mathlib.Core.Path.{_≡_, refl, ap, _∙_}
+use Prim.Native.Nat.{_-_, _≤_}
 use native.Mathlib.Omega.{arith}
 use borrow.Author.Needs.{needs}
-use lib.ListN.{length, getD}
-use Rattle.rules.specs.Tests.{upTo}
+use lib.ListN.{length}
 use Rattle.rules.specs.Words.{Room, State}
-use Rattle.rules.specs.Book.{entry}
-use Rattle.rules.specs.Laws.{entered}
-use Rattle.closing.specs.Given.{heldIn, Book}
+use Rattle.closing.specs.Given.{Book}
 use Rattle.closing.proofs.Rows.{waitingTo, waiting-more, waiting-all}
 use Rattle.closing.proofs.count_waiting.Statement.{statement}
 use Rattle.closing.proofs.count_waiting.Tie as tie
-use Rattle.closing.proofs.count_waiting.Reads as reads
-use Rattle.closing.proofs.count_waiting.Lts as lts
-use Rattle.closing.proofs.missing.Reads as missing-reads
 
 abbrev Inv-loop : tie.InvT-loop
 Inv-loop tubes n scanned count₀ k₀ count k =

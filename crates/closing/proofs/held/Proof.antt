@@ -1,17 +1,15 @@
 -- `held` meets its contract: no row passed holds the tube.
 use mathlib.Core.Path.{_≡_, refl, sym, _∙_}
-use mathlib.Core.Bool.{true, false}
-use Prim.Native.Nat.{ℕ, _-_, _≤_}
+use mathlib.Core.Bool.{false}
+use Prim.Native.Nat.{_-_, _≤_}
 use native.Mathlib.Omega.{arith}
 use borrow.Author.Needs.{needs}
 use borrow.Author.Tests.{ne-eqb}
-use lib.ListN.{length, getD}
+use lib.ListN.{getD}
 use Rattle.closing.specs.Given.{heldIn}
 use Rattle.closing.proofs.Rows.{held-next, held-here}
 use Rattle.closing.proofs.held.Statement.{statement}
 use Rattle.closing.proofs.held.Tie as tie
-use Rattle.closing.proofs.held.Reads as reads
-use Rattle.closing.proofs.held.Lts as lts
 
 abbrev Inv-loop : tie.InvT-loop
 Inv-loop n tube tubes k₀ k = (k ≤ n) × (heldIn tubes k tube ≡ false)

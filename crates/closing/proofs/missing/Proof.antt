@@ -1,14 +1,11 @@
 -- `missing` meets its contract: 0 where the tube is held, else 1.
-use mathlib.Core.Path.{_≡_, refl, sym, _∙_}
+use mathlib.Core.Path.{_≡_, sym, _∙_}
 use mathlib.Core.Bool.{true, false}
 use native.Mathlib.Omega.{arith}
 use borrow.Author.Needs.{needs}
 use Rattle.closing.specs.Given.{heldIn}
 use Rattle.closing.proofs.missing.Statement.{statement}
 use Rattle.closing.proofs.missing.Tie as tie
-use Rattle.closing.proofs.missing.Reads as reads
-use Rattle.closing.proofs.missing.Lts as lts
-use Rattle.closing.proofs.held.Reads as held-reads
 
 held-requires : tie.Need-held-requires
 held-requires c κs = search needs

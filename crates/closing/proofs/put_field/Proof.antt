@@ -1,17 +1,11 @@
 -- `put_field` meets its contract: the word is written, and the number after it.
-use mathlib.Core.List.{List, _++_}
 use native.Mathlib.Omega.{arith}
 use borrow.Author.Needs.{needs}
-use lib.ListN.{length}
 use Rattle.lines.specs.Decimal.{decimal}
 use Rattle.closing.specs.Given.{Wrote}
 use Rattle.closing.proofs.Writing.{wrote-on, decimal-short}
 use Rattle.closing.proofs.put_field.Statement.{statement}
 use Rattle.closing.proofs.put_field.Tie as tie
-use Rattle.closing.proofs.put_field.Reads as reads
-use Rattle.closing.proofs.put_field.Lts as lts
-use Rattle.closing.proofs.put_text.Reads as put-text-reads
-use Rattle.lines.proofs.put_decimal.Reads as put-decimal-reads
 
 put-text-requires : tie.Need-put-text-requires
 put-text-requires c κs = search needs

@@ -4,10 +4,6 @@ use borrow.Author.Needs.{needs}
 use Rattle.closing.proofs.Writing.{wrote-on}
 use Rattle.closing.proofs.put_owner.Statement.{statement}
 use Rattle.closing.proofs.put_owner.Tie as tie
-use Rattle.closing.proofs.put_owner.Reads as reads
-use Rattle.closing.proofs.put_owner.Lts as lts
-use Rattle.closing.proofs.end_line.Reads as end-line-reads
-use Rattle.closing.proofs.put_field.Reads as put-field-reads
 
 slice-aggregate-put-field : tie.Need-slice-aggregate-put-field
 slice-aggregate-put-field c = search needs

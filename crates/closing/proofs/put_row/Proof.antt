@@ -1,18 +1,12 @@
 -- `put_row` meets its contract: a row whose tube an earlier row holds repeats it, another enters it.
-use mathlib.Core.Path.{_≡_, sym, ap, _∙_}
+use mathlib.Core.Path.{_≡_, sym, _∙_}
 use mathlib.Core.Bool.{true, false}
-use native.Mathlib.Omega.{arith}
 use borrow.Author.Needs.{needs}
 use lib.ListN.{getD}
 use Rattle.closing.specs.Given.{heldIn}
 use Rattle.closing.proofs.Rows.{line-repeats, line-enters}
 use Rattle.closing.proofs.put_row.Statement.{statement}
 use Rattle.closing.proofs.put_row.Tie as tie
-use Rattle.closing.proofs.put_row.Reads as reads
-use Rattle.closing.proofs.put_row.Lts as lts
-use Rattle.closing.proofs.held.Reads as held-reads
-use Rattle.closing.proofs.row_line.Reads as row-line-reads
-use Rattle.closing.proofs.void_line.Reads as void-line-reads
 
 array-read-tube : tie.Need-array-read-tube
 array-read-tube c = search needs

@@ -1,18 +1,16 @@
 -- `put_text` meets its contract: each turn writes one byte more of the text.
-use mathlib.Core.Path.{_≡_, sym, ap, _∙_}
-use mathlib.Core.List.{List, [], _∷_, _++_}
-use Prim.Native.Nat.{ℕ, _+_, _-_, _≤_}
+use mathlib.Core.Path.{_≡_}
+use mathlib.Core.List.{[], _∷_, _++_}
+use Prim.Native.Nat.{_+_, _-_, _≤_}
 use native.Mathlib.Numerals.{add-one}
 use native.Mathlib.Omega.{arith}
 use borrow.Author.Needs.{needs}
 use lib.ListN.{length, getD, take, length-set}
-use lib.Seq.{take-suc, take-all, length-take-le}
+use lib.Seq.{take-suc, take-all}
 use Rattle.closing.specs.Given.{Wrote}
 use Rattle.closing.proofs.Writing.{wrote-none, wrote-byte, wrote-on}
 use Rattle.closing.proofs.put_text.Statement.{statement}
 use Rattle.closing.proofs.put_text.Tie as tie
-use Rattle.closing.proofs.put_text.Reads as reads
-use Rattle.closing.proofs.put_text.Lts as lts
 
 abbrev Inv-loop : tie.InvT-loop
 Inv-loop out₀ at text end₀ i₀ out end i = Wrote out₀ at (take i text) end out × ((i ≤ length text) × ((end ≡ at + i) × (length out ≡ length out₀)))

@@ -1,19 +1,15 @@
 -- `put_waiting` meets its contract: a tube that stands in no row of the book waits.
-use mathlib.Core.Path.{_≡_, sym, ap, _∙_}
+use mathlib.Core.Path.{_≡_, sym, _∙_}
 use mathlib.Core.Bool.{true, false}
 use native.Mathlib.Omega.{arith}
 use borrow.Author.Needs.{needs}
 use Rattle.rules.specs.Words.{Room, State}
 use Rattle.rules.specs.Book.{stands}
-use Rattle.closing.specs.Given.{heldIn, Book}
+use Rattle.closing.specs.Given.{Book}
 use Rattle.closing.proofs.Writing.{wrote-none}
 use Rattle.closing.proofs.Rows.{held-stands, line-waits}
 use Rattle.closing.proofs.put_waiting.Statement.{statement}
 use Rattle.closing.proofs.put_waiting.Tie as tie
-use Rattle.closing.proofs.put_waiting.Reads as reads
-use Rattle.closing.proofs.put_waiting.Lts as lts
-use Rattle.closing.proofs.held.Reads as held-reads
-use Rattle.closing.proofs.waiting_line.Reads as waiting-line-reads
 
 held-requires : tie.Need-held-requires
 held-requires c κs = search needs

@@ -5,10 +5,6 @@ use Rattle.closing.specs.Printed.{lineText}
 use Rattle.closing.proofs.Writing.{wrote-on}
 use Rattle.closing.proofs.void_line.Statement.{statement}
 use Rattle.closing.proofs.void_line.Tie as tie
-use Rattle.closing.proofs.void_line.Reads as reads
-use Rattle.closing.proofs.void_line.Lts as lts
-use Rattle.closing.proofs.end_line.Reads as end-line-reads
-use Rattle.closing.proofs.put_field.Reads as put-field-reads
 
 slice-aggregate-put-field : tie.Need-slice-aggregate-put-field
 slice-aggregate-put-field c = search needs

@@ -1,5 +1,5 @@
 -- `write_closing` meets its contract: rows, waiting tubes, a split and totals, one after another, are the closing lines.
-use mathlib.Core.Path.{_≡_, sym, ap, _∙_}
+use mathlib.Core.Path.{_∙_}
 use native.Mathlib.Nat.{zero-add}
 use native.Mathlib.Omega.{arith}
 use borrow.Author.Needs.{needs}
@@ -10,14 +10,6 @@ use Rattle.closing.proofs.Writing.{wrote-on}
 use Rattle.closing.proofs.Rows.{rows-known, parts}
 use Rattle.closing.proofs.write_closing.Statement.{statement}
 use Rattle.closing.proofs.write_closing.Tie as tie
-use Rattle.closing.proofs.write_closing.Reads as reads
-use Rattle.closing.proofs.write_closing.Lts as lts
-use Rattle.closing.proofs.count_entered.Reads as count-entered-reads
-use Rattle.closing.proofs.count_waiting.Reads as count-waiting-reads
-use Rattle.closing.proofs.totals_line.Reads as totals-line-reads
-use Rattle.closing.proofs.write_rows.Reads as write-rows-reads
-use Rattle.closing.proofs.write_split.Reads as write-split-reads
-use Rattle.closing.proofs.write_waiting.Reads as write-waiting-reads
 
 write-rows-requires : tie.Need-write-rows-requires
 write-rows-requires c κs =

@@ -1,18 +1,15 @@
 -- `write_rows` meets its contract: each turn writes one row's line more.
-use mathlib.Core.Path.{_≡_, refl, sym, ap, _∙_}
-use Prim.Native.Nat.{ℕ, suc, _+_, _-_, _*_, _≤_}
+use mathlib.Core.Path.{_≡_, refl, _∙_}
+use Prim.Native.Nat.{suc, _-_, _*_, _≤_}
 use native.Mathlib.Omega.{arith}
 use borrow.Author.Needs.{needs}
-use lib.ListN.{length, getD}
+use lib.ListN.{length}
 use Rattle.rules.specs.Words.{Room, State}
 use Rattle.closing.specs.Given.{Wrote, Book, Scans, rowsText}
 use Rattle.closing.proofs.Writing.{wrote-none, wrote-on}
 use Rattle.closing.proofs.Rows.{rows-next}
 use Rattle.closing.proofs.write_rows.Statement.{statement}
 use Rattle.closing.proofs.write_rows.Tie as tie
-use Rattle.closing.proofs.write_rows.Reads as reads
-use Rattle.closing.proofs.write_rows.Lts as lts
-use Rattle.closing.proofs.put_row.Reads as put-row-reads
 
 abbrev Inv-loop : tie.InvT-loop
 Inv-loop out₀ tubes n stations serials at₀ k₀ out at k =

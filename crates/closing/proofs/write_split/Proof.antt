@@ -1,14 +1,10 @@
 -- `write_split` meets its contract: one line where the book stopped by a split, else none.
-use mathlib.Core.Path.{_≡_, sym}
 use mathlib.Core.List.{append-nil}
 use native.Mathlib.Omega.{arith}
 use borrow.Author.Needs.{needs}
 use Rattle.closing.proofs.Writing.{wrote-none}
 use Rattle.closing.proofs.write_split.Statement.{statement}
 use Rattle.closing.proofs.write_split.Tie as tie
-use Rattle.closing.proofs.write_split.Reads as reads
-use Rattle.closing.proofs.write_split.Lts as lts
-use Rattle.closing.proofs.split_line.Reads as split-line-reads
 
 add-split-line : tie.Need-add-split-line
 add-split-line c = search needs

@@ -1,18 +1,15 @@
 -- `write_waiting` meets its contract: each turn writes one tube's line more, if it waits.
-use mathlib.Core.Path.{_≡_, refl, sym, ap, _∙_}
-use Prim.Native.Nat.{ℕ, suc, _+_, _-_, _*_, _≤_}
+use mathlib.Core.Path.{_≡_, refl, _∙_}
+use Prim.Native.Nat.{_+_, _-_, _*_, _≤_}
 use native.Mathlib.Omega.{arith}
 use borrow.Author.Needs.{needs}
-use lib.ListN.{length, getD}
+use lib.ListN.{length}
 use Rattle.rules.specs.Words.{Room, State}
 use Rattle.closing.specs.Given.{Wrote, Book, Scans, waitingText}
 use Rattle.closing.proofs.Writing.{wrote-none, wrote-on}
 use Rattle.closing.proofs.Rows.{waitingTo, waiting-all, waiting-text}
 use Rattle.closing.proofs.write_waiting.Statement.{statement}
 use Rattle.closing.proofs.write_waiting.Tie as tie
-use Rattle.closing.proofs.write_waiting.Reads as reads
-use Rattle.closing.proofs.write_waiting.Lts as lts
-use Rattle.closing.proofs.put_waiting.Reads as put-waiting-reads
 
 abbrev Inv-loop : tie.InvT-loop
 Inv-loop out₀ from tubes n stations serials scanned at₀ k₀ out at k =

@@ -1,15 +1,17 @@
 -- The first three tests: numbers within limits, a tube on intake, and a ballot that is not below maxBal.
 use Prim.Native.Nat.{suc, _≤_}
-use mathlib.Core.Path.{_≡_, refl, ap, sym, _∙_}
-use mathlib.Core.Bool.{true, false}
+use mathlib.Core.Path.{_≡_, refl, sym, _∙_}
+use mathlib.Core.Bool.{Bool, true, false}
 use native.Mathlib.Numerals.{add-one}
 use native.Mathlib.Omega.{arith}
 use borrow.Author.Needs.{needs}
 use borrow.Author.Tests.{not-true, not-false}
 use lib.Dec.{leb}
+use Rattle.rules.specs.Tests.{pick}
 use Rattle.rules.specs.Words.{m2av}
 use Rattle.rules.specs.Lent.{Memory, memory, roomOf, read, limits}
 use Rattle.rules.proofs.Codec.{At}
+use Rattle.vote.specs.Begun.{begun}
 use Rattle.vote.proofs.Seat.{reachable, own-height}
 use Rattle.vote.proofs.Says.{says-begun, inside}
 use Rattle.vote.proofs.begin.Statement.{statement}
@@ -36,6 +38,14 @@ eight c =
     let s = start e in
     let k = c .before .before .place .ensures in
     c .height-at-most .ensures ∙ (λ i. leb (own-height (s .pre) (small e .0) _ k _ (c .before .cell-at .ensures) i) (add-one (s .args .ballot) i))
+
+-- once 6 and 7 passed, maxBal decides
+last : (c : tie.After-height-at-most) (x : Bool) → c .height-at-most .result ≡ x → let s = start (c .before .before .before) in let a = s .args in pick x 0 8 ≡ begun (lent s) (a .row) (a .node) (a .ballot) (a .tube)
+last c x e =
+    let d = c .before .before .before in
+    let s = start d in
+    let a = s .args in
+    says-begun (lent s) (a .row) (a .node) (a .ballot) (a .tube) true true x (six (d .before .before)) (seven d) (sym (eight c) ∙ e)
 
 vote-in-requires : tie.Need-vote-in-requires
 vote-in-requires c κs = search needs
@@ -77,18 +87,10 @@ height-at-most-requires : tie.Need-height-at-most-requires
 height-at-most-requires c κs = search needs
 
 returns-3 : tie.Need-returns-3
-returns-3 c =
-    let e = c .before .before .before .before in
-    let s = start e in
-    let a = s .args in
-    says-begun (lent s) (a .row) (a .node) (a .ballot) (a .tube) true true false (six (e .before .before)) (seven e) (sym (eight (c .before)) ∙ not-true _ (c .if3 .taken))
+returns-3 c = last (c .before) false (not-true _ (c .if3 .taken))
 
 returns-4 : tie.Need-returns-4
-returns-4 c =
-    let e = c .before .before .before .before in
-    let s = start e in
-    let a = s .args in
-    says-begun (lent s) (a .row) (a .node) (a .ballot) (a .tube) true true true (six (e .before .before)) (seven e) (sym (eight (c .before)) ∙ not-false _ (c .if3 .left))
+returns-4 c = last (c .before) true (not-false _ (c .if3 .left))
 
 pub begin-spec : {M : Type 1} → statement M
 begin-spec =

@@ -1,5 +1,5 @@
 -- A 2av: the first three tests, its 1c, every pair below the ballot, a tube known safe, a place for the pair and room for the message.
-use Prim.Native.Nat.{ℕ, _≤_, _<_}
+use Prim.Native.Nat.{_≤_}
 use mathlib.Core.Path.{_≡_, refl, ap, sym, _∙_}
 use mathlib.Core.Bool.{Bool, true, false}
 use mathlib.Core.List.{List}
@@ -8,12 +8,13 @@ use borrow.Author.Needs.{needs}
 use borrow.Author.Tests.{not-true, not-false, lt-ltb, le-ltb}
 use lib.Dec.{ltb}
 use lib.ListN.{length}
-use Rattle.rules.specs.Tests.{all}
+use Rattle.rules.specs.Tests.{pick, all}
 use Rattle.rules.specs.Words.{Pair, m1c, m2av}
 use Rattle.rules.specs.Lent.{Memory, memory, stored, pairsOf, roomOf, read}
-use Rattle.rules.specs.Steps.{has, fits, without, known}
+use Rattle.rules.specs.Steps.{c2av, has, fits, without, known}
 use Rattle.rules.proofs.Codec.{At}
 use Rattle.board.proofs.Bytes.{own-stored}
+use Rattle.judge.specs.Judged.{verdict}
 use Rattle.judge.proofs.Past.{whole-sized, bounds, plain, fits-means}
 use Rattle.vote.specs.Begun.{begun}
 use Rattle.vote.proofs.Seat.{reachable, own-pairs, few}
@@ -67,6 +68,17 @@ fourteen c = let s = start (c .before .before .before .before .before .before .b
 room : (c : tie.After-fits2) → let s = start (c .before .before .before .before .before .before .before .before .before .before .before .before .before .before) in let a = s .args in c .fits2 .result ≡ fits (roomOf (a .h)) (read (lent s)) (m2av (a .row) (a .ballot) (a .node) (a .tube))
 unfolding stored
 room c = let s = start (c .before .before .before .before .before .before .before .before .before .before .before .before .before .before) in let a = s .args in fits-means (lent s) (m2av (a .row) (a .ballot) (a .node) (a .tube)) _ tt (c .before .bare .ensures) (c .fits2 .ensures)
+
+-- once all others passed, room decides
+last : (c : tie.After-fits2) (x : Bool) → c .fits2 .result ≡ x → let s = start (c .before .before .before .before .before .before .before .before .before .before .before .before .before .before) in let a = s .args in pick x 0 15 ≡ verdict (lent s) (c2av (a .row) (a .node) (a .ballot) (a .tube))
+last c x e =
+    let h = c .before .before in
+    let g = h .before .before in
+    let f = g .before .before in
+    let d = f .before .before .before .before .before in
+    let s = start (d .before .before .before) in
+    let a = s .args in
+    says-2av (lent s) (a .row) (a .node) (a .ballot) (a .tube) (went-on (d .before .before .before)) true true true true x (nine d) (ten f) (eleven g) (fourteen h) (sym (room c) ∙ e)
 
 begin-requires : tie.Need-begin-requires
 begin-requires c κs = search needs
@@ -171,26 +183,10 @@ fits-requires c κs =
     (plain (lent s) (s .pre), own-stored (m2av (a .row) (a .ballot) (a .node) (a .tube)) _ tt (c .bare .ensures))
 
 returns-6 : tie.Need-returns-6
-returns-6 c =
-    let h = c .before .before .before in
-    let g = h .before .before in
-    let f = g .before .before in
-    let d = f .before .before .before .before .before in
-    let e = d .before .before .before in
-    let s = start e in
-    let a = s .args in
-    says-2av (lent s) (a .row) (a .node) (a .ballot) (a .tube) (went-on e) true true true true false (nine d) (ten f) (eleven g) (fourteen h) (sym (room (c .before)) ∙ not-true _ (c .if6 .taken))
+returns-6 c = last (c .before) false (not-true _ (c .if6 .taken))
 
 returns-7 : tie.Need-returns-7
-returns-7 c =
-    let h = c .before .before .before in
-    let g = h .before .before in
-    let f = g .before .before in
-    let d = f .before .before .before .before .before in
-    let e = d .before .before .before in
-    let s = start e in
-    let a = s .args in
-    says-2av (lent s) (a .row) (a .node) (a .ballot) (a .tube) (went-on e) true true true true true (nine d) (ten f) (eleven g) (fourteen h) (sym (room (c .before)) ∙ not-false _ (c .if6 .left))
+returns-7 c = last (c .before) true (not-false _ (c .if6 .left))
 
 pub judge-2av-spec : {M : Type 1} → statement M
 judge-2av-spec =

@@ -1,15 +1,17 @@
 -- A 2b: the first three tests, a quorum that relayed the tube, and room for the message.
 use Prim.Native.Nat.{_≤_}
 use mathlib.Core.Path.{_≡_, refl, sym, _∙_}
-use mathlib.Core.Bool.{true, false}
+use mathlib.Core.Bool.{Bool, true, false}
 use native.Mathlib.Omega.{arith}
 use borrow.Author.Needs.{needs}
 use borrow.Author.Tests.{not-true, not-false}
+use Rattle.rules.specs.Tests.{pick}
 use Rattle.rules.specs.Words.{m2b}
 use Rattle.rules.specs.Lent.{Memory, memory, stored, roomOf, read}
-use Rattle.rules.specs.Steps.{fits, relayed}
+use Rattle.rules.specs.Steps.{c2b, fits, relayed}
 use Rattle.rules.proofs.Codec.{At}
 use Rattle.board.proofs.Bytes.{own-stored}
+use Rattle.judge.specs.Judged.{verdict}
 use Rattle.judge.proofs.Past.{bounds, plain, fits-means}
 use Rattle.vote.specs.Begun.{begun}
 use Rattle.vote.proofs.Says.{lists-in, begun-inside, early-2b, says-2b}
@@ -34,6 +36,14 @@ relays c = sym (c .before .covered .ensures) ∙ not-false _ (c .if2 .left)
 room : (c : tie.After-fits2) → let s = start (c .before .before .before .before) in let a = s .args in c .fits2 .result ≡ fits (roomOf (a .h)) (read (lent s)) (m2b (a .row) (a .ballot) (a .node) (a .tube))
 unfolding stored
 room c = let s = start (c .before .before .before .before) in let a = s .args in fits-means (lent s) (m2b (a .row) (a .ballot) (a .node) (a .tube)) _ tt (c .before .bare .ensures) (c .fits2 .ensures)
+
+-- once a quorum relayed, room decides
+last : (c : tie.After-fits2) (x : Bool) → c .fits2 .result ≡ x → let s = start (c .before .before .before .before) in let a = s .args in pick x 0 15 ≡ verdict (lent s) (c2b (a .row) (a .node) (a .ballot) (a .tube))
+last c x e =
+    let d = c .before .before in
+    let s = start (d .before .before) in
+    let a = s .args in
+    says-2b (lent s) (a .row) (a .node) (a .ballot) (a .tube) (went-on (d .before .before)) true x (relays d) (sym (room c) ∙ e)
 
 begin-requires : tie.Need-begin-requires
 begin-requires c κs = search needs
@@ -80,20 +90,10 @@ fits-requires c κs =
     (plain (lent s) (s .pre), own-stored (m2b (a .row) (a .ballot) (a .node) (a .tube)) _ tt (c .bare .ensures))
 
 returns-3 : tie.Need-returns-3
-returns-3 c =
-    let d = c .before .before .before in
-    let e = d .before .before in
-    let s = start e in
-    let a = s .args in
-    says-2b (lent s) (a .row) (a .node) (a .ballot) (a .tube) (went-on e) true false (relays d) (sym (room (c .before)) ∙ not-true _ (c .if3 .taken))
+returns-3 c = last (c .before) false (not-true _ (c .if3 .taken))
 
 returns-4 : tie.Need-returns-4
-returns-4 c =
-    let d = c .before .before .before in
-    let e = d .before .before in
-    let s = start e in
-    let a = s .args in
-    says-2b (lent s) (a .row) (a .node) (a .ballot) (a .tube) (went-on e) true true (relays d) (sym (room (c .before)) ∙ not-false _ (c .if3 .left))
+returns-4 c = last (c .before) true (not-false _ (c .if3 .left))
 
 pub judge-2b-spec : {M : Type 1} → statement M
 judge-2b-spec =

@@ -1,4 +1,0 @@
-pub mod Votes
-pub mod Chosen
-pub mod Lines
-pub mod Past
