@@ -39,7 +39,7 @@ same-self x = let r = rawOf x in
 pub bytes-long : (x : Msg) → length (bytesOf (stored x)) ≡ 40
 bytes-long x = ap (λ (t : ℕ). suc (suc (suc (suc (suc (suc (suc (suc t)))))))) (msg-long x)
 
-bytes-back : (x : Msg) → msgOf (bytesOf (stored x)) ≡ stored x
+pub bytes-back : (x : Msg) → msgOf (bytesOf (stored x)) ≡ stored x
 bytes-back x = rw (take-all 32 (stored x .pairs) (omega (arith, msg-long x)))
 
 module _ (s : List ℕ) (x : Msg) (back : meaning (stored x) ≡ x) where

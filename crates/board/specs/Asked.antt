@@ -1,11 +1,12 @@
 -- What the search and the writer of messages ask: a struct that is its meaning's own, a plain board, and room if it is new.
 use mathlib.Core.Path.{_≡_}
 use mathlib.Core.Bool.{Bool, false}
-use mathlib.Core.List.{List}
+use mathlib.Core.List.{List, []}
 use Prim.Native.Nat.{ℕ, _*_, _≤_, _<_}
 use lib.Dec.{T}
 use lib.ListN.{length}
 use Rattle.rules.specs.Tests.{allBelow, anyBelow, eqs}
+use Rattle.rules.specs.Words.{Msg, rawOf, sameRaw}
 use Rattle.rules.specs.Lent.{memory, window, meaning, stored, boardOf, plainMsg}
 use Rattle.rules.specs.Steps as steps
 use Rattle.rules.specs.declared.House.{House}
@@ -36,3 +37,7 @@ pub record Postable (h : House) (s : List ℕ) (m : Message) : Type 0 where
 -- the house record and the board afterwards are those of the rules, whatever stands beside them
 abbrev pub Posted : House → List ℕ → Message → House → List ℕ → Type 0
 Posted h s m h′ s′ = (cells heard : List ℕ) → memory h′ s′ cells heard ≡ steps.post (memory h s cells heard) (meaning m)
+
+-- a message of this kind (4 a 2av, 5 a 2b), row, ballot and tube from node a: the rules' is2av and is2b
+abbrev pub isVote : ℕ → ℕ → ℕ → ℕ → ℕ → Msg → Bool
+isVote k r b v a x = sameRaw (rawOf x) (record { kind = k; row = r; bal = b; node = a; tube = v; mbal = 0; mval = 0; pairs = [] })

@@ -1,13 +1,15 @@
 // The board: forty bytes a message, read by value, searched, and appended after the last.
 ghost use mathlib.Core.Path.{_≡_};
+ghost use mathlib.Core.Bool.{_||_};
 ghost use mathlib.Core.List.{[]};
-ghost use Prim.Native.Nat.{_+_, _*_, _≤_, _<_};
+ghost use Prim.Native.Nat.{ℕ, _+_, _*_, _≤_, _<_};
 ghost use lib.ListN.{length};
-ghost use Rattle.rules.specs.Tests.{eqs};
+ghost use Rattle.rules.specs.Tests.{any, bit, eqs};
 ghost use Rattle.rules.specs.Words.{m1a, m1c, kindOf};
-ghost use Rattle.rules.specs.Lent.{patch, window, msgOf, bytesOf, msgAt, meaning, line, boardOf, is1bAt};
-ghost use Rattle.rules.specs.Steps.{has};
-ghost use Rattle.board.specs.Asked.{Plain, Own, standing, Postable, Posted};
+ghost use Rattle.rules.specs.Lent.{patch, window, msgOf, bytesOf, msgAt, meaning, line, boardOf, is1bAt, roomOf};
+ghost use Rattle.rules.specs.Steps.{has, covers};
+ghost use Rattle.sets.specs.Sets.{Gathered};
+ghost use Rattle.board.specs.Asked.{Plain, Own, standing, Postable, Posted, isVote};
 
 // A message's part is handed to the reader.
 pub fn decode(s: &[u8]) -> rules::Message
@@ -206,4 +208,90 @@ pub fn is_1b_at(board: &[u8], n: usize, k: usize) -> bool
 {
     let m = msg_at(board, k);
     kind_of(m) == 2
+}
+
+// Whether a message is a vote of this kind (4 a 2av, 5 a 2b) for this row, ballot and tube, by its own node.
+pub fn is_vote(
+    m: rules::Message,
+    kind: u8,
+    row: rules::Row,
+    ballot: rules::Ballot,
+    tube: rules::Tube,
+) -> bool
+    requires { ⌜ 4 ≤ kind ⌝ }
+    ensures { λ r. ⌜ r ≡ isVote kind (row .0) (ballot .0) (tube .0) (m .node) (meaning m) ⌝ }
+{
+    if kind_of(m) != kind {
+        return false;
+    }
+    if m.row != row.0 {
+        return false;
+    }
+    if m.bal != ballot.0 {
+        return false;
+    }
+    m.tube == tube.0
+}
+
+// The set with the voter, if the message is such a vote.
+pub fn with_voter(
+    set: u8,
+    m: rules::Message,
+    kind: u8,
+    row: rules::Row,
+    ballot: rules::Ballot,
+    tube: rules::Tube,
+) -> u8
+    requires { ⌜ 4 ≤ kind ⌝ }
+    ensures { λ r. ⌜ ((a : ℕ) → a < 8 → bit r a ≡ bit set a || isVote kind (row .0) (ballot .0) (tube .0) a (meaning m)) ⌝ }
+{
+    if is_vote(m, kind, row, ballot, tube) {
+        return sets::with_node(set, m.node);
+    }
+    set
+}
+
+// The nodes that have a message of this kind (4 a 2av, 5 a 2b) for this row, ballot and tube on the board.
+pub fn votes(
+    board: &[u8],
+    n: usize,
+    kind: u8,
+    row: rules::Row,
+    ballot: rules::Ballot,
+    tube: rules::Tube,
+) -> u8
+    requires { ⌜ n ≤ 1024 ⌝ }
+    requires { ⌜ 40 * n ≤ length (now board) ⌝ }
+    requires { ⌜ 4 ≤ kind ⌝ }
+    ensures { λ r. ⌜ Gathered r (λ a. any (isVote kind (row .0) (ballot .0) (tube .0) a) (boardOf (now (board .entry)) n)) ⌝ }
+{
+    let mut set: u8 = 0;
+    let mut i: usize = 0;
+    while i < n {
+        let m = msg_at(board, i);
+        set = with_voter(set, m, kind, row, ballot, tube);
+        i += 1;
+    }
+    set
+}
+
+// Whether some quorum has such a vote from each of its nodes: a tube relayed (kind 4) or chosen (kind 5) in a ballot.
+pub fn covered(
+    h: rules::House,
+    board: &[u8],
+    kind: u8,
+    row: rules::Row,
+    ballot: rules::Ballot,
+    tube: rules::Tube,
+) -> bool
+    requires { ⌜ (h .nodes ≤ 8) × (h .listed ≤ 64) ⌝ }
+    requires { ⌜ h .count ≤ 1024 ⌝ }
+    requires { ⌜ 40 * h .count ≤ length (now board) ⌝ }
+    requires { ⌜ 4 ≤ kind ⌝ }
+    ensures { λ r. ⌜ r ≡ covers (roomOf h) (roomOf h .quorums) (isVote kind (row .0) (ballot .0) (tube .0)) (boardOf (now (board .entry)) (h .count)) ⌝ }
+{
+    let n = h.count as usize;
+    let set = votes(board, n, kind, row, ballot, tube);
+    let list = h.quorums;
+    sets::some_full(list, h.listed, h.nodes, set)
 }

@@ -1,4 +1,3 @@
-pub mod Each
-pub mod Sets
-pub mod Counted
 pub mod Plain
+pub mod Heard
+pub mod Says

@@ -5,17 +5,18 @@ use mathlib.Core.List.{List, [], _∷_, _++_}
 use Prim.Native.Nat.{ℕ, zero, suc, _+_, _-_, _*_, _≤_, _<_}
 use native.Mathlib.Omega.{arith}
 use borrow.Author.Tests.{eqb-true, eq-eqb, ne-eqb, lt-leb}
-use lib.Dec.{T, eqb, leb, ltb, eqb·suc-zero, leb·suc-suc}
+use lib.Dec.{T, eqb, leb, ltb, leb→le, eqb·suc-zero, leb·suc-suc}
 use lib.ListN.{length, getD, take, drop, length-take, length-drop, take-append-drop}
 use lib.Seq.{take-all}
-use Rattle.rules.specs.Tests.{pick, all, eqs, fit}
+use Rattle.rules.specs.Tests.{pick, all, allBelow, eqs, fit}
 use Rattle.rules.specs.Words.{tubeIn, balIn, heightOf, heightByte, Pair, Room}
-use Rattle.rules.specs.Lent.{window, pairsOf, pairBytes, msgOf, bytesOf, msgAt, meaning, stored, cellOf, encode, cellAt, meaningCell, storedCell, rowIn, pairsIn, limits, scanned, plainMsg, goodMsg, plainCell, goodCell, cellForm}
+use Rattle.rules.specs.Lent.{window, pairsOf, pairBytes, msgOf, bytesOf, msgAt, meaning, stored, boardOf, cellOf, encode, cellAt, meaningCell, storedCell, rowIn, pairsIn, limits, scanned, plainMsg, goodMsg, plainCell, goodCell, cellForm}
 use Rattle.rules.specs.Replies.{pairsPlain}
 use Rattle.rules.specs.declared.Message.{Message}
 use Rattle.rules.specs.declared.Cell as stored-cell
-use Rattle.form.specs.Form.{lacking, held, paired, messageFormed, cellFormed}
-use Rattle.form.proofs.Each.{build, take-build}
+use Rattle.rules.proofs.Sound.{and-l, and-r}
+use Rattle.form.specs.Form.{lacking, held, paired, messageFields, messageFormed, cellFormed}
+use Rattle.rules.proofs.Each.{each-both, each-same, build, board-build, take-build, all-build}
 
 -- ---- a height that is stored again, and the pairs that are counted again
 
@@ -55,6 +56,28 @@ window-long w k s h = simp (length-take, length-drop) (omega arith)
 same-cell : (c : stored-cell.Cell) → eqs (encode c) (encode (storedCell (meaningCell c))) ≡ pairsPlain (c .count) (c .pairs)
 same-cell c =
     rw (height-back (c .maxbal), height-back (c .maxvbal), length-pairs (c .count) (c .pairs), eq-eqb (c .maxbal) (c .maxbal) refl, eq-eqb (c .maxvbal) (c .maxvbal) refl, eq-eqb (c .maxvval) (c .maxvval) refl, eq-eqb (c .count) (c .count) refl)
+
+-- a cell's tests, as the rules and as the code order them
+kept : (z x y i a : Bool) → z && (x && (y && (i && a))) ≡ (x && y) && ((i && z) && a)
+kept z true true true a = refl
+kept z true true false a = and-false z
+kept z true false i a = and-false z
+kept z false y i a = and-false z
+
+-- what a cell's form says, by the tests of its parts
+pub cell-are : (t : ℕ) (c : stored-cell.Cell) (a b : Bool) → a ≡ leb (heightOf (c .maxbal)) 16 → b ≡ leb (heightOf (c .maxvbal)) 16
+    → cellFormed t c ≡ ((a && b) && (leb (c .maxvval) 64 && leb (c .maxvval) t)) && paired t (c .count) (c .pairs)
+unfolding goodCell
+cell-are t c a b p q =
+    rw (p, q)
+    (kept (pairsPlain (c .count) (c .pairs)) (leb (heightOf (c .maxbal)) 16 && leb (heightOf (c .maxvbal)) 16) (leb (c .maxvval) 64 && leb (c .maxvval) t) (pairsIn (pairsOf (c .count) (c .pairs))) (all (λ p. leb (p .0) t) (pairsOf (c .count) (c .pairs))))
+
+-- sixteen pairs at most
+pub pairs-few : (c : ℕ) (l : List ℕ) → pairsIn (pairsOf c l) && pairsPlain c l ≡ true → c ≤ 16
+pairs-few c l e =
+    let t : T (pairsIn (pairsOf c l) && pairsPlain c l) = rw e tt in
+    let h : length (pairsOf c l) ≤ 16 = search (leb→le, and-l, and-r) depth 9 in
+    omega (arith, length-pairs c l)
 
 -- the cell numbered k is in form
 pub cell-formed : (t : ℕ) (s : List ℕ) (k : ℕ) → 36 * k + 36 ≤ length s → cellForm t s k ≡ cellFormed t (cellAt s k)
@@ -112,13 +135,13 @@ tubed false v k = refl
 
 -- another kind is not stored so
 strange : (ρ : Room) (t : ℕ) (m : Message) → (m .kind ≡ 1 → ⊥) → (m .kind ≡ 2 → ⊥) → (m .kind ≡ 3 → ⊥) → (m .kind ≡ 4 → ⊥) → (m .kind ≡ 5 → ⊥)
-    → messageFormed ρ t m ≡ (lacking m && held (ρ .nodes) (ρ .rows) t m) && paired t (m .count) (m .pairs)
+    → messageFormed ρ t m ≡ messageFields (ρ .nodes) (ρ .rows) t m
 unfolding meaning stored lacking
 strange ρ t m a b c d e = rw (ne-eqb (m .kind) 1 a, ne-eqb (m .kind) 2 b, ne-eqb (m .kind) 3 c, ne-eqb (m .kind) 4 d, ne-eqb (m .kind) 5 e)
 
 -- a message is plain and good
 formed : (ρ : Room) (t k r b n v x y c : ℕ) (l : List ℕ) → let m : Message = record { kind = k; row = r; bal = b; node = n; tube = v; mbal = x; mval = y; count = c; pairs = l } in
-    messageFormed ρ t m ≡ (lacking m && held (ρ .nodes) (ρ .rows) t m) && paired t c l
+    messageFormed ρ t m ≡ messageFields (ρ .nodes) (ρ .rows) t m
 unfolding meaning stored goodMsg limits scanned lacking held
 formed ρ t zero r b n v x y c l = refl
 formed ρ t (suc zero) r b n v x y c l =
@@ -146,9 +169,17 @@ formed ρ t (suc (suc (suc (suc (suc (suc k)))))) r b n v x y c l =
 
 -- the message numbered k is plain and good
 pub message-formed : (ρ : Room) (t : ℕ) (s : List ℕ) (k : ℕ) → 40 * k + 40 ≤ length s
-    → plainMsg s k && goodMsg ρ t (meaning (msgAt s k)) ≡ (lacking (msgAt s k) && held (ρ .nodes) (ρ .rows) t (msgAt s k)) && paired t (msgAt s k .count) (msgAt s k .pairs)
+    → plainMsg s k && goodMsg ρ t (meaning (msgAt s k)) ≡ messageFields (ρ .nodes) (ρ .rows) t (msgAt s k)
 unfolding plainMsg
 message-formed ρ t s k h =
     let m = msgAt s k in
     ap (λ (z : List ℕ). eqs z (bytesOf (stored (meaning m))) && goodMsg ρ t (meaning m)) (sym (msg-bytes s k h))
     ∙ formed ρ t (m .kind) (m .row) (m .bal) (m .node) (m .tube) (m .mbal) (m .mval) (m .count) (m .pairs)
+
+-- the first n messages are plain and good
+pub messages-are : (ρ : Room) (t : ℕ) (s : List ℕ) (n : ℕ) → 40 * n ≤ length s
+    → allBelow (plainMsg s) n && all (goodMsg ρ t) (boardOf s n) ≡ allBelow (λ k. messageFields (ρ .nodes) (ρ .rows) t (msgAt s k)) n
+messages-are ρ t s n h =
+    ap (λ (b : Bool). allBelow (plainMsg s) n && b) (ap (all (goodMsg ρ t)) (board-build s n) ∙ all-build (goodMsg ρ t) (λ k. meaning (msgAt s k)) n)
+    ∙ sym (each-both (plainMsg s) (λ k. goodMsg ρ t (meaning (msgAt s k))) n)
+    ∙ each-same (λ k. plainMsg s k && goodMsg ρ t (meaning (msgAt s k))) (λ k. messageFields (ρ .nodes) (ρ .rows) t (msgAt s k)) n (λ k l. message-formed ρ t s k (omega arith))

@@ -1,46 +1,19 @@
 -- What the parts of the gate decide, over just what each part reads.
-use mathlib.Core.Bool.{Bool, true, false, not, _&&_, _||_}
-use mathlib.Core.List.{List}
-use Prim.Native.Nat.{ℕ, _*_, _^_}
+use mathlib.Core.Path.{_≡_}
+use mathlib.Core.Bool.{Bool, true, _&&_, _||_}
+use mathlib.Core.List.{List, [], _∷_}
+use Prim.Native.Nat.{ℕ, _%_, _^_, _<_}
+use lib.Bits.{bitAnd}
 use lib.Dec.{eqb, leb, ltb}
-use lib.ListN.{getD}
-use Rattle.rules.specs.Tests.{pick, all, allBelow, distinct, eqs, bit, count, first}
+use lib.ListN.{length, getD}
+use Rattle.rules.specs.Tests.{pick, all, eqs}
 use Rattle.rules.specs.Words.{balIn, tubeIn, heightOf, Room}
-use Rattle.rules.specs.Lent.{pairsOf, bytesOf, meaning, stored, meaningCell, tables, roomOf, intakeOf, sameScan, pairsIn, goodMsg, goodCell}
+use Rattle.rules.specs.Lent.{Memory, pairsOf, bytesOf, meaning, stored, boardOf, meaningCell, heardAt, counts, long, pairsIn, goodMsg, goodCell, is1bAt, inForm}
 use Rattle.rules.specs.Replies.{pairsPlain}
 use Rattle.rules.specs.declared.Message.{Message}
 use Rattle.rules.specs.declared.Cell as stored-cell
-use Rattle.rules.specs.declared.House.{House}
-use Rattle.form.specs.declared.Asked.{Asked}
-use Rattle.form.specs.declared.Asked.the-variants.{Present, Shares, Strong}
 
--- areas of these lengths serve a room of these sizes
-abbrev pub lengths : ℕ → ℕ → ℕ → ℕ → ℕ → ℕ → Bool
-lengths nodes rows capacity b c k = leb (40 * capacity) b && (leb (36 * (nodes * rows)) c && leb (128 * nodes) k)
-
--- two sets share more than f nodes
-abbrev pub share : ℕ → ℕ → ℕ → ℕ → Bool
-share nodes faulty p q = ltb faulty (count (λ n. bit p n && bit q n) nodes)
-
--- what the tables ask of a set
-abbrev pub passes : ℕ → ℕ → Asked → ℕ → Bool
-passes nodes faulty Present q = ltb q (2 ^ nodes)
-passes nodes faulty (Shares p) q = share nodes faulty p q
-passes nodes faulty Strong q = ltb faulty (count (bit q) nodes)
-
--- the scan numbered i of intake
-abbrev pub scanAt : List ℕ → List ℕ → ℕ → ℕ × ℕ
-scanAt a b i = (getD a i 0, getD b i 0)
-
--- it is none of those before it
-abbrev pub newScan : List ℕ → List ℕ → ℕ → Bool
-newScan a b k = allBelow (λ j. not (sameScan (scanAt a b j) (scanAt a b k))) k
-
--- the house record's tables pass opening; intake scans differ; marks name only existing nodes
-abbrev pub houseFormed : House → Bool
-houseFormed h = eqb (first (tables (roomOf h))) 0 && (distinct sameScan (intakeOf (h .stations) (h .serials) (h .tubes)) && ltb (h .marks) (2 ^ h .nodes))
-
--- ---- a stored cell
+-- ---- pairs and cells
 
 -- the pairs are in their limits and ascend, unused ones are 0, and their tubes are on intake
 abbrev pub paired : ℕ → ℕ → List ℕ → Bool
@@ -73,3 +46,28 @@ held nodes rows t m = ((leb 1 (m .row) && leb (m .row) rows) && balIn (m .bal))
     (pick (eqb (m .kind) 2) (ltb (m .node) nodes && (leb (heightOf (m .mbal)) 16 && (leb (m .mval) 64 && leb (m .mval) t)))
     (pick (eqb (m .kind) 3) (tubeIn (m .tube) && leb (m .tube) t)
     (ltb (m .node) nodes && (tubeIn (m .tube) && leb (m .tube) t))))
+
+-- so it is plain and good
+abbrev pub messageFields : ℕ → ℕ → ℕ → Message → Bool
+messageFields nodes rows t m = (lacking m && held nodes rows t m) && paired t (m .count) (m .pairs)
+
+-- ---- heard bits
+
+-- the bit of a message in its byte if its first byte says 1b
+abbrev pub promiseBit : ℕ → ℕ → ℕ
+promiseBit kind k = pick (eqb kind 2) (2 ^ (k % 8)) 0
+
+-- one node's heard bytes r have just the bits of the 1b messages among the first n
+pub record Promises (s : List ℕ) (n : ℕ) (r : List ℕ) : Type 0 where
+  pub long : length r ≡ 128
+  pub bits : (k : ℕ) → k < 1024 → heardAt r 0 k ≡ is1bAt (boardOf s n) k
+
+-- byte t of the heard area has only bits of r, which is one node's
+abbrev pub byteIn : List ℕ → List ℕ → ℕ → Bool
+byteIn heard r t = eqb (bitAnd (getD heard t 0) (getD r (t % 128) 0)) (getD heard t 0)
+
+-- ---- the gate
+
+-- a call's own areas being long enough or not
+abbrev pub gateOf : Memory → Bool → List (Bool × ℕ)
+gateOf m areas = (counts (m .house), 17) ∷ (long m && areas, 5) ∷ (inForm m, 17) ∷ []

@@ -1,201 +1,65 @@
 // The gate of every call: counts, lengths and form of lent memory, each part decided by one small function.
 ghost use mathlib.Core.Path.{_≡_};
-ghost use mathlib.Core.Bool.{Bool, true, false, not, _&&_, _||_};
-ghost use Prim.Native.Nat.{ℕ, _+_, _*_, _^_, _≤_, _<_};
-ghost use lib.Dec.{eqb, leb, ltb};
-ghost use lib.ListN.{length, getD, take};
-ghost use Rattle.rules.specs.Tests.{all, allBelow, distinct, bit, count, first};
-ghost use Rattle.rules.specs.Words.{nodesIn, faultyIn, rowsIn, capacityIn, tubeIn, heightOf};
-ghost use Rattle.rules.specs.Lent.{counts, tables, roomOf, intakeOf, sameScan};
-ghost use Rattle.form.specs.Form.{lengths, passes, share, newScan, houseFormed, bareOf, lacking, held};
+ghost use mathlib.Core.Bool.{Bool, true, _&&_};
+ghost use mathlib.Core.List.{[]};
+ghost use Prim.Native.Nat.{_*_, _≤_};
+ghost use lib.Dec.{leb};
+ghost use lib.ListN.{length};
+ghost use Rattle.rules.specs.Tests.{all, allBelow, first};
+ghost use Rattle.rules.specs.Words.{tubeIn, heightOf};
+ghost use Rattle.rules.specs.Lent.{memory, boardOf, counts, long, roomOf, plainMsg, goodMsg, cellForm, boardForm, heardForm, inForm};
+ghost use Rattle.form.specs.Form.{paired, cellFormed, bareOf, lacking, held, messageFields, promiseBit, Promises, byteIn, gateOf};
+use rules::Cell;
 use rules::House;
 use rules::Message;
 
-// ---- counts and lengths
+// ---- pairs and cells
 
-// A number lies between two others, which it may reach.
-pub fn within(low: u32, x: u32, high: u32) -> bool
-    ensures { λ r. ⌜ r ≡ leb low x && leb x high ⌝ }
+// The pairs are in their limits and ascend, unused ones are 0, and their tubes are on intake.
+pub fn pairs_ok(pairs: [u8; 32], count: u8, tubes: u8) -> bool
+    ensures { λ r. ⌜ r ≡ paired tubes count pairs ⌝ }
 {
-    (low <= x) & (x <= high)
-}
-
-// Nodes, unruly stations, rows and capacity are in their limits.
-pub fn sizes_in(nodes: u32, faulty: u32, rows: u32, capacity: u32) -> bool
-    ensures { λ r. ⌜ r ≡ (nodesIn nodes && faultyIn faulty) && (rowsIn rows && capacityIn capacity) ⌝ }
-{
-    (within(1, nodes, 8) & (faulty <= 7)) & (within(1, rows, 64) & within(1, capacity, 1024))
-}
-
-// All counts of the house record are in their limits.
-pub fn counts_ok(h: House) -> bool
-    ensures { λ r. ⌜ r ≡ counts h ⌝ }
-{
-    let sizes = sizes_in(
-        h.nodes as u32,
-        h.faulty as u32,
-        h.rows as u32,
-        h.capacity as u32,
-    );
-    let lists = within(1, h.listed as u32, 64) & within(1, h.backers as u32, 64);
-    sizes & (lists & ((h.tubes <= 64) & (h.count <= h.capacity)))
-}
-
-// No lent area is too short for a room of these sizes.
-pub fn lengths_ok(
-    nodes: u8,
-    rows: u8,
-    capacity: u16,
-    board: &[u8],
-    cells: &[u8],
-    heard: &[u8],
-) -> bool
-    ensures { λ r. ⌜ r ≡ lengths nodes rows capacity (length (now (board .entry))) (length (now (cells .entry))) (length (now (heard .entry))) ⌝ }
-{
-    let n = nodes as usize;
-    let r = rows as usize;
-    let c = capacity as usize;
-    (40 * c <= board.len()) & ((36 * (n * r) <= cells.len()) & (128 * n <= heard.len()))
-}
-
-// ---- the tables
-
-// How many of the room's nodes a set names.
-pub fn members(nodes: u8, set: u8) -> u32
-    requires { ⌜ nodes ≤ 8 ⌝ }
-    ensures { λ r. ⌜ r ≡ count (bit set) nodes ⌝ }
-{
-    let low = (set as u16) % (1u16 << nodes);
-    u16::count_ones(low)
-}
-
-// What the tables ask of a set: it names present nodes, it shares more than f of them with another, it has more than f.
-pub enum Asked {
-    Present,
-    Shares(u8),
-    Strong,
-}
-
-pub fn set_passes(nodes: u8, faulty: u8, asked: Asked, set: u8) -> bool
-    requires { ⌜ nodes ≤ 8 ⌝ }
-    ensures { λ r. ⌜ r ≡ passes nodes faulty asked set ⌝ }
-{
-    match asked {
-        Asked::Present => (set as u16) < (1u16 << nodes),
-        Asked::Shares(other) => (faulty as u32) < members(nodes, other & set),
-        Asked::Strong => (faulty as u32) < members(nodes, set),
-    }
-}
-
-// The first n sets pass.
-pub fn all_pass(nodes: u8, faulty: u8, asked: Asked, sets: &[u8], n: usize) -> bool
-    requires { ⌜ nodes ≤ 8 ⌝ }
-    requires { ⌜ n ≤ length (now sets) ⌝ }
-    ensures { λ r. ⌜ r ≡ all (passes nodes faulty asked) (take n (now (sets .entry))) ⌝ }
-{
-    let mut i: usize = 0;
-    while i < n {
-        let set = sets[i];
-        if !set_passes(nodes, faulty, asked, set) {
-            return false;
-        }
-        i += 1;
-    }
-    true
-}
-
-// Each two of the first n sets, one with itself too, share more than f nodes.
-pub fn all_share(nodes: u8, faulty: u8, sets: &[u8], n: usize) -> bool
-    requires { ⌜ nodes ≤ 8 ⌝ }
-    requires { ⌜ n ≤ length (now sets) ⌝ }
-    ensures { λ r. ⌜ r ≡ all (λ p. all (share nodes faulty p) (take n (now (sets .entry)))) (take n (now (sets .entry))) ⌝ }
-{
-    let mut i: usize = 0;
-    while i < n {
-        let p = sets[i];
-        if !all_pass(nodes, faulty, Asked::Shares(p), sets, n) {
-            return false;
-        }
-        i += 1;
-    }
-    true
-}
-
-// What opening says of a house record's tables: 2, 3, 4, or 0 if they pass.
-pub fn tables_number(h: House) -> u8
-    requires { ⌜ counts h ≡ true ⌝ }
-    ensures { λ r. ⌜ r ≡ first (tables (roomOf h)) ⌝ }
-{
-    let q = h.quorums;
-    let w = h.weaks;
-    let n = h.listed as usize;
-    let k = h.backers as usize;
-    if !all_pass(h.nodes, h.faulty, Asked::Present, &q, n) {
-        return 2;
-    }
-    if !all_pass(h.nodes, h.faulty, Asked::Present, &w, k) {
-        return 2;
-    }
-    if !all_share(h.nodes, h.faulty, &q, n) {
-        return 3;
-    }
-    if !all_pass(h.nodes, h.faulty, Asked::Strong, &w, k) {
-        return 4;
-    }
-    0
-}
-
-// ---- intake
-
-// The scan numbered k is none of those before it.
-pub fn scan_new(stations: &[u8], serials: &[u32], k: usize) -> bool
-    requires { ⌜ k < length (now stations) ⌝ }
-    requires { ⌜ k < length (now serials) ⌝ }
-    ensures { λ r. ⌜ r ≡ newScan (now (stations .entry)) (now (serials .entry)) k ⌝ }
-{
-    let a = stations[k];
-    let b = serials[k];
-    let mut j: usize = 0;
-    while j < k {
-        if (stations[j] == a) & (serials[j] == b) {
-            return false;
-        }
-        j += 1;
-    }
-    true
-}
-
-// The first n scans differ from one another.
-pub fn scans_differ(stations: &[u8], serials: &[u32], n: usize) -> bool
-    requires { ⌜ n ≤ length (now stations) ⌝ }
-    requires { ⌜ n ≤ length (now serials) ⌝ }
-    ensures { λ r. ⌜ r ≡ distinct sameScan (intakeOf (now (stations .entry)) (now (serials .entry)) n) ⌝ }
-{
-    let mut i: usize = 0;
-    while i < n {
-        if !scan_new(stations, serials, i) {
-            return false;
-        }
-        i += 1;
-    }
-    true
-}
-
-// The tables pass opening, intake scans differ from one another, marks name only existing nodes.
-pub fn house_ok(h: House) -> bool
-    requires { ⌜ counts h ≡ true ⌝ }
-    ensures { λ r. ⌜ r ≡ houseFormed h ⌝ }
-{
-    if tables_number(h) != 0 {
+    if !pairs::pairs_in(pairs, count) {
         return false;
     }
-    let a = h.stations;
-    let b = h.serials;
-    let n = h.tubes as usize;
-    if !scans_differ(&a, &b, n) {
+    pairs::each(pairs, count, pairs::Ask::Scanned(tubes))
+}
+
+// A stored ballot that may be none is in its limits.
+pub fn height_in(x: u8) -> bool
+    ensures { λ r. ⌜ r ≡ leb (heightOf x) 16 ⌝ }
+{
+    (x == 255) | (x <= 15)
+}
+
+// A stored cell is in form.
+pub fn cell_ok(c: Cell, tubes: u8) -> bool
+    ensures { λ r. ⌜ r ≡ cellFormed tubes c ⌝ }
+{
+    let ballots = height_in(c.maxbal) & height_in(c.maxvbal);
+    let vote = (c.maxvval <= 64) & (c.maxvval <= tubes);
+    if !(ballots & vote) {
         return false;
     }
-    (h.marks as u16) < (1u16 << h.nodes)
+    let p = c.pairs;
+    pairs_ok(p, c.count, tubes)
+}
+
+// The first n cells are in form.
+pub fn cells_ok(cells: &[u8], n: usize, tubes: u8) -> bool
+    requires { ⌜ n ≤ 512 ⌝ }
+    requires { ⌜ 36 * n ≤ length (now cells) ⌝ }
+    ensures { λ r. ⌜ r ≡ allBelow (cellForm tubes (now (cells .entry))) n ⌝ }
+{
+    let mut i: usize = 0;
+    while i < n {
+        let c = cell::cell_at(cells, i);
+        if !cell_ok(c, tubes) {
+            return false;
+        }
+        i += 1;
+    }
+    true
 }
 
 // ---- messages
@@ -224,13 +88,6 @@ pub fn lacking_ok(m: Message) -> bool
     ((m.kind == 4) | (m.kind == 5)) & none
 }
 
-// A stored ballot that may be none is in its limits.
-pub fn height_in(x: u8) -> bool
-    ensures { λ r. ⌜ r ≡ leb (heightOf x) 16 ⌝ }
-{
-    (x == 255) | (x <= 15)
-}
-
 // A tube that may not be none is in its limits and on intake.
 pub fn tube_in(tube: u8, tubes: u8) -> bool
     ensures { λ r. ⌜ r ≡ tubeIn tube && leb tube tubes ⌝ }
@@ -244,7 +101,7 @@ pub fn held_ok(nodes: u8, rows: u8, tubes: u8, m: Message) -> bool
 {
     let place = ((1 <= m.row) & (m.row <= rows)) & (m.bal <= 15);
     if m.kind == 1 {
-        return place & true;
+        return place;
     }
     if m.kind == 2 {
         return place
@@ -255,4 +112,151 @@ pub fn held_ok(nodes: u8, rows: u8, tubes: u8, m: Message) -> bool
         return place & tube;
     }
     place & ((m.node < nodes) & tube)
+}
+
+// A stored message is plain and good.
+pub fn message_ok(nodes: u8, rows: u8, tubes: u8, m: Message) -> bool
+    ensures { λ r. ⌜ r ≡ messageFields nodes rows tubes m ⌝ }
+{
+    if !(lacking_ok(m) & held_ok(nodes, rows, tubes, m)) {
+        return false;
+    }
+    let p = m.pairs;
+    pairs_ok(p, m.count, tubes)
+}
+
+// Every message is plain and good.
+pub fn messages_ok(h: House, board: &[u8]) -> bool
+    requires { ⌜ counts h ≡ true ⌝ }
+    requires { ⌜ 40 * h .capacity ≤ length (now board) ⌝ }
+    ensures { λ r. ⌜ r ≡ allBelow (plainMsg (now (board .entry))) (h .count) && all (goodMsg (roomOf h) (h .tubes)) (boardOf (now (board .entry)) (h .count)) ⌝ }
+{
+    let n = h.count as usize;
+    let mut i: usize = 0;
+    while i < n {
+        let m = board::msg_at(board, i);
+        if !message_ok(h.nodes, h.rows, h.tubes, m) {
+            return false;
+        }
+        i += 1;
+    }
+    true
+}
+
+// Every message is plain and good, and no two are equal.
+pub fn board_ok(h: House, board: &[u8]) -> bool
+    requires { ⌜ counts h ≡ true ⌝ }
+    requires { ⌜ 40 * h .capacity ≤ length (now board) ⌝ }
+    ensures { λ r. ⌜ r ≡ boardForm (memory h (now (board .entry)) [] []) ⌝ }
+{
+    if !messages_ok(h, board) {
+        return false;
+    }
+    let n = h.count as usize;
+    differ::messages_differ(board, n)
+}
+
+// ---- heard bits
+
+// The bit of a message in its byte if its first byte says 1b.
+pub fn promise_bit(kind: u8, k: usize) -> u8
+    ensures { λ r. ⌜ r ≡ promiseBit kind k ⌝ }
+{
+    if kind == 2 {
+        return 1u8 << (k % 8);
+    }
+    0
+}
+
+// The bits of the 1b messages among the first n, laid out as one node's heard bytes.
+pub fn promises(board: &[u8], n: usize) -> [u8; 128]
+    requires { ⌜ n ≤ 1024 ⌝ }
+    requires { ⌜ 40 * n ≤ length (now board) ⌝ }
+    ensures { λ r. ⌜ Promises (now (board .entry)) n r ⌝ }
+{
+    let mut out = [0u8; 128];
+    let mut k: usize = 0;
+    while k < n {
+        let b = promise_bit(board[40 * k], k);
+        let at = k / 8;
+        out[at] = out[at] | b;
+        k += 1;
+    }
+    out
+}
+
+// The first n heard bytes have only bits of these, which are one node's.
+pub fn bytes_in(heard: &[u8], n: usize, these: &[u8]) -> bool
+    requires { ⌜ n ≤ length (now heard) ⌝ }
+    requires { ⌜ length (now these) ≡ 128 ⌝ }
+    ensures { λ r. ⌜ r ≡ allBelow (byteIn (now (heard .entry)) (now (these .entry))) n ⌝ }
+{
+    let mut t: usize = 0;
+    while t < n {
+        let x = heard[t];
+        let j = t % 128;
+        if (x & these[j]) != x {
+            return false;
+        }
+        t += 1;
+    }
+    true
+}
+
+// Heard bits stand only at 1b messages.
+pub fn heard_ok(h: House, board: &[u8], heard: &[u8]) -> bool
+    requires { ⌜ counts h ≡ true ⌝ }
+    requires { ⌜ 40 * h .capacity ≤ length (now board) ⌝ }
+    requires { ⌜ 128 * h .nodes ≤ length (now heard) ⌝ }
+    ensures { λ r. ⌜ r ≡ heardForm (memory h (now (board .entry)) [] (now (heard .entry))) ⌝ }
+{
+    let n = h.count as usize;
+    let p = promises(board, n);
+    let k = h.nodes as usize;
+    bytes_in(heard, 128 * k, &p)
+}
+
+// ---- the gate
+
+// Memory is in form.
+pub fn form_ok(h: House, board: &[u8], cells: &[u8], heard: &[u8]) -> bool
+    requires { ⌜ counts h ≡ true ⌝ }
+    requires { ⌜ long (memory h (now board) (now cells) (now heard)) ≡ true ⌝ }
+    ensures { λ r. ⌜ r ≡ inForm (memory h (now (board .entry)) (now (cells .entry)) (now (heard .entry))) ⌝ }
+{
+    if !tables::house_ok(h) {
+        return false;
+    }
+    if !board_ok(h, board) {
+        return false;
+    }
+    let n = h.nodes as usize;
+    let r = h.rows as usize;
+    if !cells_ok(cells, n * r, h.tubes) {
+        return false;
+    }
+    heard_ok(h, board, heard)
+}
+
+// What the gate answers, where a call's own areas are long enough or not: 17 for a count, 5, 17 for the form, or 0.
+pub fn gate_with(h: House, board: &[u8], cells: &[u8], heard: &[u8], areas: bool) -> u8
+    ensures { λ r. ⌜ r ≡ first (gateOf (memory h (now (board .entry)) (now (cells .entry)) (now (heard .entry))) areas) ⌝ }
+{
+    if !tables::counts_ok(h) {
+        return 17;
+    }
+    if !(tables::lengths_ok(h.nodes, h.rows, h.capacity, board, cells, heard) & areas) {
+        return 5;
+    }
+    if !form_ok(h, board, cells, heard) {
+        return 17;
+    }
+    0
+}
+
+// What the gate answers to a call that has no areas of its own.
+pub fn gate(h: House, board: &[u8], cells: &[u8], heard: &[u8]) -> u8
+    ensures { λ r. ⌜ r ≡ first (gateOf (memory h (now (board .entry)) (now (cells .entry)) (now (heard .entry))) true) ⌝ }
+{
+    gate_with(h, board, cells, heard, true)
 }

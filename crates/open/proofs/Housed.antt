@@ -2,19 +2,16 @@
 use mathlib.Core.Path.{_≡_}
 use mathlib.Core.Bool.{true}
 use mathlib.Core.List.{List}
-use Prim.Native.Nat.{ℕ, _^_, _≤_, _<_}
-use native.Mathlib.Omega.{arith}
-use borrow.Author.Tests.{ltb-true}
+use Prim.Native.Nat.{ℕ, _≤_, _<_}
 use lib.Dec.{T, leb→le}
 use lib.ListN.{length, getD}
-use lib.Pow.{pow-mono}
 use Rattle.rules.specs.Tests.{all}
 use Rattle.rules.specs.Words.{Room}
 use Rattle.rules.specs.Lent.{present}
 use Rattle.rules.specs.Replies.{roomCounts}
 use Rattle.rules.proofs.Sound.{and-l, and-r}
 use Rattle.open.specs.Room.{Housed}
-use Rattle.open.proofs.Listed.{all-at}
+use Rattle.tables.proofs.Lists.{set-bytes}
 
 -- counts in their limits
 pub record Sizes (ρ : Room) : Type 0 where
@@ -39,9 +36,6 @@ sizes-of ρ e = let t : T (roomCounts ρ) = rw e tt in
 pub sizes : {ρ : Room} → Housed ρ → Sizes ρ
 sizes {ρ} h = sizes-of ρ (h .counts)
 
--- a set of present nodes is a byte
-pub bytes : {ρ : Room} → Housed ρ → (l : List ℕ) → all (present ρ) l ≡ true → (k : ℕ) → k < length l → getD l k 0 < 256
-bytes {ρ} h l e k i =
-    let t = ltb-true (getD l k 0) (2 ^ ρ .nodes) (all-at (present ρ) l k e i) in
-    let p : 2 ^ ρ .nodes ≤ 2 ^ 8 = pow-mono (sizes h .nodes) in
-    omega arith
+-- its sets are bytes
+pub bytes : {ρ : Room} → Housed ρ → (l : List ℕ) → all (present ρ) l ≡ true → (k : ℕ) → getD l k 0 < 256
+bytes {ρ} h l e = set-bytes (ρ .nodes) l (sizes h .nodes) e

@@ -7,7 +7,6 @@ use native.Mathlib.Nat.{mul-le-mul}
 use native.Mathlib.Omega.{arith}
 use borrow.Author.Tests.{eq-eqb}
 use lib.Dec.{T, leb, leb→le}
-use lib.ListN.{length}
 use Rattle.rules.specs.Tests.{pick, all, many, first}
 use Rattle.rules.specs.Words.{Room, fresh}
 use Rattle.rules.specs.Lent.{Memory, memory, patch, encode, storedCell, present, tables}
@@ -16,6 +15,7 @@ use Rattle.rules.specs.declared.House.{House}
 use Rattle.rules.proofs.Refusals.{opening-keeps}
 use Rattle.rules.proofs.Scan.{holds}
 use Rattle.rules.proofs.Sound.{Clear, clear, and-l, and-r}
+use Rattle.rules.proofs.Spare.{Wide, wide}
 use Rattle.open.specs.Room.{Housed}
 use Rattle.open.proofs.Housed.{sizes}
 
@@ -41,14 +41,12 @@ refused ρ m k a e n d = record { answer = d ∙ ap bare e; memory = sym (openin
 pub record Passed (ρ : Room) (m : Memory) : Type 0 where
   pub housed : Housed ρ
   pub places : ρ .nodes * ρ .rows ≤ 512
-  pub cells : 36 * (ρ .nodes * ρ .rows) ≤ length (m .cells)
-  pub heard : 128 * ρ .nodes ≤ length (m .heard)
+  pub wide : Wide ρ m
 
 pub passed : (ρ : Room) (m : Memory) → openReply ρ m ≡ 0 → Passed ρ m
 unfolding openReply
 passed ρ m e =
     let t : Clear ((roomCounts ρ, 1) ∷ (roomLong ρ m, 5) ∷ tables ρ) = clear ((roomCounts ρ, 1) ∷ (roomLong ρ m, 5) ∷ tables ρ) tt e in
-    let l = t .1 .0 in
     let q : Bool = all (present ρ) (ρ .quorums) in
     let w : Bool = all (present ρ) (ρ .weaks) in
     let h : Housed ρ = record {
@@ -60,8 +58,7 @@ passed ρ m e =
     record {
       housed = h;
       places = mul-le-mul {n₂ = 8} {m₂ = 64} (z .nodes) (z .rows);
-      cells = search (leb→le, and-l, and-r) depth 9;
-      heard = search (leb→le, and-l, and-r) depth 9;
+      wide = wide ρ m e;
     }
 
 pub done : (ρ : Room) (m : Memory) (h : House) (cells heard : List ℕ) → openReply ρ m ≡ 0 → h ≡ houseOf ρ

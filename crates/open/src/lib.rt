@@ -8,7 +8,6 @@ use rules::House;
 use rules::Reply;
 
 mod clear; // clear.rt: cells and heard bits as opening leaves them
-mod lists; // lists.rt: the quorum list and the weak list
 mod room; // room.rt: the room's counts and its house record
 
 // What opening replies, and the house record afterwards.
@@ -75,7 +74,7 @@ fn judge_open(
     if !room::counts_in(nodes, faulty, rows, capacity, quorums, weaks) {
         return 1;
     }
-    if !form::lengths_ok(
+    if !tables::lengths_ok(
         nodes as u8,
         rows as u8,
         capacity as u16,
@@ -85,5 +84,5 @@ fn judge_open(
     ) {
         return 5;
     }
-    room::lists_number(nodes, faulty, rows, capacity, quorums, weaks)
+    tables::lists_number(nodes as u8, faulty as u8, quorums, weaks)
 }

@@ -1,12 +1,7 @@
 // The room that opening is asked for: its counts, and the house record made of it.
 ghost use mathlib.Core.Path.{_≡_};
-ghost use mathlib.Core.Bool.{true};
-ghost use Rattle.rules.specs.Tests.{first};
-ghost use Rattle.rules.specs.Lent.{tables};
 ghost use Rattle.rules.specs.Replies.{roomCounts, houseOf};
 ghost use Rattle.open.specs.Room.{room, Housed};
-use crate::lists::sets_in;
-use crate::lists::table_of;
 use rules::House;
 
 // All its counts are in their limits.
@@ -20,7 +15,7 @@ pub fn counts_in(
 ) -> bool
     ensures { λ r. ⌜ r ≡ roomCounts (room nodes faulty rows capacity (now (quorums .entry)) (now (weaks .entry))) ⌝ }
 {
-    let sizes = form::sizes_in(nodes, faulty, rows, capacity);
+    let sizes = tables::sizes_in(nodes, faulty, rows, capacity);
     let q = quorums.len();
     let w = weaks.len();
     sizes & (((1 <= q) & (q <= 64)) & ((1 <= w) & (w <= 64)))
@@ -38,8 +33,8 @@ pub fn house_of(
     requires { ⌜ Housed (room nodes faulty rows capacity (now quorums) (now weaks)) ⌝ }
     ensures { λ r. ⌜ r ≡ houseOf (room nodes faulty rows capacity (now (quorums .entry)) (now (weaks .entry))) ⌝ }
 {
-    let q = table_of(quorums);
-    let w = table_of(weaks);
+    let q = tables::narrowed(quorums);
+    let w = tables::narrowed(weaks);
     House {
         nodes: nodes as u8,
         faulty: faulty as u8,
@@ -55,25 +50,4 @@ pub fn house_of(
         marks: 0,
         count: 0,
     }
-}
-
-// What opening says of its lists: 2, 3, 4, or 0 if they pass.
-pub fn lists_number(
-    nodes: u32,
-    faulty: u32,
-    rows: u32,
-    capacity: u32,
-    quorums: &[u32],
-    weaks: &[u32],
-) -> u8
-    requires { ⌜ roomCounts (room nodes faulty rows capacity (now quorums) (now weaks)) ≡ true ⌝ }
-    ensures { λ r. ⌜ r ≡ first (tables (room nodes faulty rows capacity (now (quorums .entry)) (now (weaks .entry)))) ⌝ }
-{
-    if !sets_in(quorums, nodes as u8) {
-        return 2;
-    }
-    if !sets_in(weaks, nodes as u8) {
-        return 2;
-    }
-    form::tables_number(house_of(nodes, faulty, rows, capacity, quorums, weaks))
 }

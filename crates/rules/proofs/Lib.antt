@@ -13,3 +13,4 @@ pub mod Refusals
 pub mod Forms
 pub mod Spare
 pub mod Scan
+pub mod Each

@@ -29,7 +29,7 @@ max-bit x y (inl e) (inr d) = rw (e, d)
 max-bit x y (inr e) (inl d) = rw (e, d)
 max-bit x y (inr e) (inr d) = rw (e, d)
 
-digit : (x : ℕ) → (x % 2 ≡ 0) ⊎ (x % 2 ≡ 1)
+pub digit : (x : ℕ) → (x % 2 ≡ 0) ⊎ (x % 2 ≡ 1)
 digit x = two (x % 2) (omega arith)
 
 pub bit-and : (p q n : ℕ) → bit (bitAnd p q) n ≡ bit p n && bit q n
@@ -46,10 +46,10 @@ bit-or p q n =
     let e : bitOr a b % 2 ≡ max (a % 2) (b % 2) = omega (arith, or-step a b) in
     rw (or-shr, e) (max-bit (a % 2) (b % 2) (digit a) (digit b))
 
-bit-suc : (x n : ℕ) → bit x (suc n) ≡ bit (x / 2) n
+pub bit-suc : (x n : ℕ) → bit x (suc n) ≡ bit (x / 2) n
 bit-suc x n = ap (λ (z : ℕ). eqb (z % 2) 1) (sym (shr-shr x 1 n ∙ ap (λ (z : ℕ). x / 2 ^ z) (one-add n)))
 
-one-digit : (x : ℕ) → (x ≡ 0) ⊎ (x ≡ 1) → one (eqb x 1) ≡ x
+pub one-digit : (x : ℕ) → (x ≡ 0) ⊎ (x ≡ 1) → one (eqb x 1) ≡ x
 one-digit x (inl e) = rw e
 one-digit x (inr e) = rw e
 
@@ -71,7 +71,7 @@ pub ones-common : (k p q : ℕ) → p < 2 ^ k → q < 2 ^ k → ones (bitAnd p q
 ones-common k p q h l = ones-count k (bitAnd p q) (and-lt k p q h l) ∙ ap (λ (f : ℕ → Bool). count f k) (fun-ext (bit-and p q))
 
 -- a node's own bit
-zero-bit : (a : ℕ) → bit 0 a ≡ false
+pub zero-bit : (a : ℕ) → bit 0 a ≡ false
 zero-bit zero = refl
 zero-bit (suc a) = bit-suc 0 a ∙ zero-bit a
 

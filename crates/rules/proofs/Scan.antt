@@ -6,6 +6,7 @@ use Prim.Native.Nat.{ℕ, zero, suc, _+_, _-_, _*_, _≤_, _<_}
 use native.Mathlib.Nat.{add-suc, add-zero}
 use native.Mathlib.Numerals.{add-one}
 use native.Mathlib.Omega.{arith}
+use borrow.Author.Tests.{eqb-true, eq-eqb}
 use lib.Dec.{T, eqb, eqb→eq, eqb-refl}
 use lib.ListN.{length, getD, take, drop}
 use lib.Seq.{take-suc, getD-drop}
@@ -39,6 +40,9 @@ both-ways false true p q = q refl
 both-ways false false p q = refl
 
 -- ---- numbers
+
+pub turn : (a b : ℕ) → eqb a b ≡ eqb b a
+turn a b = both-ways (eqb a b) (eqb b a) (λ e. eq-eqb b a (sym (eqb-true a b e))) (λ e. eq-eqb a b (sym (eqb-true b a e)))
 
 -- one more that does not pass
 pub below-more : (p : ℕ → Bool) (i : ℕ) → anyBelow p i ≡ false → p i ≡ false → anyBelow p (i + 1) ≡ false

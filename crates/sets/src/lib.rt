@@ -3,9 +3,9 @@ ghost use mathlib.Core.Path.{_≡_};
 ghost use mathlib.Core.Bool.{not, _&&_};
 ghost use Prim.Native.Nat.{_^_, _≤_, _<_};
 ghost use lib.Dec.{ltb};
-ghost use lib.ListN.{length, take};
+ghost use lib.ListN.{take};
 ghost use Rattle.rules.specs.Tests.{any, allIn, bit, count};
-ghost use Rattle.sets.specs.Joined.{joined};
+ghost use Rattle.sets.specs.Sets.{joined};
 
 pub fn in_set(set: u8, a: u8) -> bool
     requires { ⌜ a < 8 ⌝ }
@@ -33,12 +33,13 @@ pub fn lacks(q: u8, have: u8, a: u8) -> bool
     }
 }
 
-// Whether some of the first n sets of the list has all its nodes in have. Both loops are left at the first such set.
-pub fn some_full(list: &[u8], n: usize, nodes: u8, have: u8) -> bool
-    requires { ⌜ n ≤ length (now list) ⌝ }
+// Whether some listed set has all its nodes in have. Both loops are left at the first such set.
+pub fn some_full(list: [u8; 64], listed: u8, nodes: u8, have: u8) -> bool
+    requires { ⌜ listed ≤ 64 ⌝ }
     requires { ⌜ nodes ≤ 8 ⌝ }
-    ensures { λ r. ⌜ r ≡ any (λ q. allIn nodes q (bit have)) (take n (now (list .entry))) ⌝ }
+    ensures { λ r. ⌜ r ≡ any (λ q. allIn nodes q (bit have)) (take listed list) ⌝ }
 {
+    let n = listed as usize;
     let mut found = false;
     let mut k: usize = 0;
     'sets: while k < n {

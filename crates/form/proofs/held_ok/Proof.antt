@@ -1,5 +1,6 @@
 -- By the kind, tested one after another.
 use native.Mathlib.Omega.{arith}
+use mathlib.Core.Bool.{and-true}
 use borrow.Author.Needs.{needs}
 use borrow.Author.Tests.{eq-eqb, ne-eqb}
 use Rattle.form.specs.Form.{held}
@@ -8,7 +9,7 @@ use Rattle.form.proofs.held_ok.Tie as tie
 
 returns : tie.Need-returns
 unfolding held
-returns c = rw (eq-eqb _ 1 (c .if1 .taken))
+returns c = rw (eq-eqb _ 1 (c .if1 .taken), and-true)
 
 height-in-requires : tie.Need-height-in-requires
 height-in-requires c κs = search needs

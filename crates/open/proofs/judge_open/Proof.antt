@@ -15,9 +15,9 @@ use Rattle.open.proofs.judge_open.Statement.{statement}
 use Rattle.open.proofs.judge_open.Tie as tie
 use Rattle.open.proofs.judge_open.Reads as reads
 use Rattle.open.proofs.judge_open.Lts as lts
-use Rattle.form.proofs.lengths_ok.Reads as lengths-ok-reads
+use Rattle.tables.proofs.lengths_ok.Reads as lengths-ok-reads
 use Rattle.open.proofs.room.counts_in.Reads as counts-in-reads
-use Rattle.open.proofs.room.lists_number.Reads as lists-number-reads
+use Rattle.tables.proofs.lists_number.Reads as lists-number-reads
 
 module _ (s : lts.Start (counts-in-reads.Asked, counts-in-reads.Learnt, lengths-ok-reads.Asked, lengths-ok-reads.Learnt, lists-number-reads.Asked, lists-number-reads.Learnt) reads.Pre reads.Post) where
   -- the room that is asked for
@@ -67,8 +67,14 @@ returns-2 c =
     let s = p .before .before .before .before .before .before .before in
     λ h. judged (asked s) (lent s h) true false _ (counted p) (sym (q .lengths-ok .ensures) ∙ not-true _ (c .if2 .taken)) refl
 
+cast-lists-number : tie.Need-cast-lists-number
+cast-lists-number c = let z = small (c .before .before) in omega arith
+
+cast-lists-number-2 : tie.Need-cast-lists-number-2
+cast-lists-number-2 c = let z = small (c .before .before) in omega arith
+
 lists-number-requires : tie.Need-lists-number-requires
-lists-number-requires c κs = counted (c .before .before)
+lists-number-requires c κs = let z = small (c .before .before) in (z .nodes, (z .quorums, z .weaks))
 
 returns-3 : tie.Need-returns-3
 returns-3 c =
@@ -89,5 +95,7 @@ judge-open-spec =
     cast-lengths-ok-3
     lengths-ok-requires
     returns-2
+    cast-lists-number
+    cast-lists-number-2
     lists-number-requires
     returns-3)

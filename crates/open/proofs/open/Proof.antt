@@ -64,13 +64,13 @@ mul-fresh-cells : tie.Need-mul-fresh-cells
 mul-fresh-cells c = let z = told (c .before) .places in omega arith
 
 fresh-cells-requires : tie.Need-fresh-cells-requires
-fresh-cells-requires c κs = (told (c .before) .places, told (c .before) .cells)
+fresh-cells-requires c κs = (told (c .before) .places, told (c .before) .wide .cells)
 
 mul-zeros : tie.Need-mul-zeros
 mul-zeros c = search needs
 
 zeros-requires : tie.Need-zeros-requires
-zeros-requires c κs = told (c .before .before .before .before .before) .heard
+zeros-requires c κs = told (c .before .before .before .before .before) .wide .heard
 
 house-of-requires : tie.Need-house-of-requires
 house-of-requires c κs = told (c .before .before .before .before .before .before .before .before) .housed

@@ -5,7 +5,7 @@ use native.Mathlib.Omega.{arith}
 use borrow.Author.Needs.{needs}
 use borrow.Author.Tests.{lt-ltb, le-ltb}
 use lib.Pow.{pow-lt}
-use Rattle.sets.specs.Joined.{joined}
+use Rattle.sets.specs.Sets.{joined}
 use Rattle.sets.proofs.with_node.Statement.{statement}
 use Rattle.sets.proofs.with_node.Tie as tie
 

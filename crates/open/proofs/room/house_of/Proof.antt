@@ -4,13 +4,13 @@ use Rattle.open.proofs.Housed.{sizes, bytes}
 use Rattle.open.proofs.room.house_of.Statement.{statement}
 use Rattle.open.proofs.room.house_of.Tie as tie
 
-table-of-requires : tie.Need-table-of-requires
-table-of-requires c κs =
+narrowed-requires : tie.Need-narrowed-requires
+narrowed-requires c κs =
     let s = c .before .before in
     (sizes (s .pre) .quorums, bytes (s .pre) (s .args .quorums .now) (s .pre .quorums))
 
-table-of-requires-2 : tie.Need-table-of-requires-2
-table-of-requires-2 c κs =
+narrowed-requires-2 : tie.Need-narrowed-requires-2
+narrowed-requires-2 c κs =
     let s = c .before .before .before in
     (sizes (s .pre) .weaks, bytes (s .pre) (s .args .weaks .now) (s .pre .weaks))
 
@@ -33,14 +33,14 @@ cast-t16 : tie.Need-cast-t16
 cast-t16 c = let z = sizes (c .before .before .before .before .pre) in omega arith
 
 returns : tie.Need-returns
-returns c = rw (c .before .table-of .ensures, c .table-of2 .ensures)
+returns c = rw (c .before .narrowed .ensures, c .narrowed2 .ensures)
 
 pub house-of-spec : {M : Type 1} → statement M
 house-of-spec =
     tie.close
     (tie.spec
-    table-of-requires
-    table-of-requires-2
+    narrowed-requires
+    narrowed-requires-2
     cast-t9
     cast-t10
     cast-t11

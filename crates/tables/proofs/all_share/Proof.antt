@@ -1,0 +1,75 @@
+-- Each set shares enough with all of them, one by one.
+use mathlib.Core.Path.{_≡_, refl, ap, sym, _∙_}
+use mathlib.Core.Bool.{Bool, true, false}
+use Prim.Native.Nat.{ℕ, _≤_, _<_, _-_}
+use native.Mathlib.Omega.{arith}
+use borrow.Author.Needs.{needs}
+use borrow.Author.Tests.{not-true, not-false}
+use lib.ListN.{length, getD, take}
+use Rattle.rules.specs.Tests.{all, allBelow}
+use Rattle.tables.specs.Tables.{share}
+use Rattle.rules.proofs.Each.{each-more, each-stop, all-take}
+use Rattle.tables.proofs.all_share.Statement.{statement}
+use Rattle.tables.proofs.all_share.Tie as tie
+
+abbrev Inv-loop : tie.InvT-loop
+Inv-loop nodes faulty sets n i₀ i = (i ≤ n) × (allBelow (λ k. all (share nodes faulty (getD sets k 0)) (take n sets)) i ≡ true)
+
+abbrev μ-loop : tie.MeasureT-loop
+μ-loop nodes faulty sets n i₀ i = n - i
+
+loop-holds : tie.Need-loop-holds Inv-loop μ-loop
+loop-holds c = search needs
+
+shared-slice-read-p : tie.Need-shared-slice-read-p Inv-loop μ-loop
+shared-slice-read-p c = search needs
+
+all-pass-requires : tie.Need-all-pass-requires Inv-loop μ-loop
+all-pass-requires c κs = search needs
+
+returns : tie.Need-returns Inv-loop μ-loop
+returns c =
+    let p = c .before in
+    let l = p .before .before .before in
+    let s = l .before .before in
+    let a = s .args in
+    let t : ℕ → Bool = λ x. all (share (a .nodes) (a .faulty) x) (take (a .n) (a .sets .now)) in
+    sym (all-take t (a .sets .now) (a .n) (s .pre .1) ∙ each-stop (λ k. t (getD (a .sets .now) k 0)) (l .loop .i) (a .n) (omega arith) (sym (p .all-pass .ensures) ∙ not-true _ (c .if1 .taken)))
+
+add-i : tie.Need-add-i Inv-loop μ-loop
+add-i c = search needs
+
+loop-less : tie.Need-loop-less Inv-loop μ-loop
+loop-less c = search needs
+
+loop-again : tie.Need-loop-again Inv-loop μ-loop
+loop-again c =
+    let p = c .before in
+    let l = p .before .before .before in
+    let a = l .before .before .args in
+    let t : ℕ → Bool = λ x. all (share (a .nodes) (a .faulty) x) (take (a .n) (a .sets .now)) in
+    (omega arith, each-more (λ k. t (getD (a .sets .now) k 0)) (l .loop .i) (l .loop .inv .1) (sym (p .all-pass .ensures) ∙ not-false _ (c .if1 .left)))
+
+returns-2 : tie.Need-returns-2 Inv-loop μ-loop
+returns-2 c =
+    let l = c .before in
+    let s = l .before .before in
+    let a = s .args in
+    let t : ℕ → Bool = λ x. all (share (a .nodes) (a .faulty) x) (take (a .n) (a .sets .now)) in
+    let e : l .loop .i ≡ a .n = omega arith in
+    sym (all-take t (a .sets .now) (a .n) (s .pre .1) ∙ rw e at (l .loop .inv .1))
+
+pub all-share-spec : {M : Type 1} → statement M
+all-share-spec =
+    tie.close
+    (tie.spec
+    Inv-loop
+    μ-loop
+    loop-holds
+    shared-slice-read-p
+    all-pass-requires
+    returns
+    add-i
+    loop-less
+    loop-again
+    returns-2)
