@@ -6,6 +6,7 @@ ghost use Rattle.rules.specs.Steps as steps;
 ghost use Rattle.rules.specs.Steps.{c1a, c1b, c1c};
 ghost use Rattle.rules.specs.Replies.{answerOf, bare, Did};
 
+pub mod asks; // asks.rt: asking a row, and the book
 pub mod posts; // posts.rt: the foreign post
 pub mod votes; // votes.rt: 2av and 2b
 

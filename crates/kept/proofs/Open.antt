@@ -1,5 +1,5 @@
 -- An opening that was done leaves the room that was asked for, empty, in memory in form.
-use mathlib.Core.Path.{_≡_, refl, ap, sym, subst, _∙_, fun-ext}
+use mathlib.Core.Path.{_≡_, refl, ap, sym, subst, fun-ext}
 use mathlib.Core.Bool.{Bool, true, false, not, _&&_, _||_}
 use mathlib.Core.List.{List, [], _∷_, _++_, append-assoc}
 use Prim.Native.Nat.{ℕ, zero, suc, _+_, _*_, _/_, _%_, _^_, _≤_, _<_}
@@ -7,16 +7,17 @@ use native.Mathlib.Nat.{zero-div}
 use native.Mathlib.Omega.{arith}
 use borrow.Author.Tests.{eq-eqb, ltb-true}
 use lib.Dec.{T, eqb, ltb, leb→le, le→leb, lt→ltb}
-use lib.ListN.{length, getD, take, drop, length-append}
+use lib.ListN.{length, getD, take, drop}
 use lib.Pow.{pow-pos}
 use lib.Seq.{drop-append-add, take-at}
-use Rattle.rules.specs.Tests.{pick, allBelow, eqs, fit, many, bit, first}
+use Rattle.rules.specs.Tests.{pick, allBelow, eqs, many, bit, first}
 use Rattle.rules.specs.Words.{fresh, Room}
 use Rattle.rules.specs.Lent.{Memory, cellOf, encode, cellAt, meaningCell, storedCell, place, heardAt, roomOf, inRoom, read, tables, counts, long, plainCell, goodCell, cellForm, houseForm, boardForm, cellsForm, bitForm, heardForm, is1bAt}
 use Rattle.rules.specs.Replies.{roomCounts, roomLong, openReply, houseOf, opened, opening}
 use Rattle.rules.proofs.Sound.{and-l, and-r, clear, Clear}
 use Rattle.rules.proofs.Area.{length-patch}
-use Rattle.rules.proofs.Codec.{length-fit, at-in, place-in}
+use Rattle.rules.proofs.Codec.{length-fit, take-fit, at-in, place-in}
+use Rattle.rules.proofs.Spare.{length-many}
 use Rattle.agree.specs.Room.{blank}
 use Rattle.kept.specs.Kept.{Begun}
 use Rattle.kept.proofs.Ready.{Form, drop-test}
@@ -24,10 +25,6 @@ use Rattle.kept.proofs.Lists.{and-two, below-all}
 use Rattle.kept.proofs.Stay.{in-form}
 
 -- ---- lists that opening writes
-
-pub length-many : (w : List ℕ) (k n : ℕ) → length w ≡ k → length (many n w) ≡ k * n
-length-many w k zero e = omega arith
-length-many w k (suc n) e = length-append w (many n w) ∙ omega (arith, length-many w k n e)
 
 window-many : (w t : List ℕ) (n k : ℕ) → length w ≡ 36 → k < n → take 36 (drop (36 * k) (many n w ++ t)) ≡ w
 window-many w t zero k l h = absurd (omega arith)
@@ -43,22 +40,6 @@ zeros t (suc n) (suc i) h = zeros t n i (omega arith)
 
 no-bit : (j : ℕ) → bit 0 j ≡ false
 no-bit j = rw (zero-div (2 ^ j))
-
-take-fit : (n : ℕ) (l : List ℕ) → length l ≤ n → take (length l) (fit n l) ≡ l
-take-fit n [] h = refl
-take-fit zero (x ∷ l) h = absurd (omega arith)
-take-fit (suc n) (x ∷ l) h = ap (λ (t : List ℕ). x ∷ t) (take-fit n l (omega arith))
-
--- ---- the house record of a room
-
--- it is read as that room
-pub room-back : (ρ : Room) → length (ρ .quorums) ≤ 64 → length (ρ .weaks) ≤ 64 → roomOf (houseOf ρ) ≡ ρ
-room-back ρ q w = λ i. record { nodes = ρ .nodes; faulty = ρ .faulty; rows = ρ .rows; capacity = ρ .capacity; quorums = take-fit 64 (ρ .quorums) q i; weaks = take-fit 64 (ρ .weaks) w i }
-
--- its counts are in limits
-pub counts-back : (ρ : Room) → T (roomCounts ρ) → T (counts (houseOf ρ))
-unfolding counts
-counts-back ρ t = let z = le→leb 0 (ρ .capacity) (omega arith) in search (and-two, and-l, and-r, t, z) depth 12
 
 -- ---- opening
 
@@ -87,7 +68,7 @@ module _ (ρ : Room) (m : Memory) (e : openReply ρ m ≡ 0) where
   listed = let t = tests .0 in (search (leb→le, and-l, and-r) depth 9, search (leb→le, and-l, and-r) depth 9)
 
   room : roomOf (houseOf ρ) ≡ ρ
-  room = room-back ρ (listed .0) (listed .1)
+  room = λ i. record { nodes = ρ .nodes; faulty = ρ .faulty; rows = ρ .rows; capacity = ρ .capacity; quorums = take-fit 64 (ρ .quorums) (listed .0) i; weaks = take-fit 64 (ρ .weaks) (listed .1) i }
 
   -- a cell as opening sets it
   window-new : (k : ℕ) → k < ρ .nodes * ρ .rows → take 36 (drop (36 * k) (m′ .cells)) ≡ encode (storedCell fresh)
@@ -122,19 +103,23 @@ module _ (ρ : Room) (m : Memory) (e : openReply ρ m ≡ 0) where
         subst (λ (b : Bool). T (not b || is1bAt [] k)) (sym (unheard a k l i)) tt));
   }
 
+  counted : T (counts (houseOf ρ))
+  unfolding counts
+  counted = let t = tests .0 in let z = le→leb 0 (ρ .capacity) (omega arith) in search (and-two, and-l, and-r, t, z) depth 12
+
   lengthy : T (long m′)
   unfolding long
   lengthy =
       let t = tests .1 .0 in
       let c : 36 * (ρ .nodes * ρ .rows) ≤ length (m .cells) = search (leb→le, and-l, and-r) depth 9 in
       let h : 128 * ρ .nodes ≤ length (m .heard) = search (leb→le, and-l, and-r) depth 9 in
-      let lc = length-many (encode (storedCell fresh)) 36 (ρ .nodes * ρ .rows) refl in
-      let lh = length-many (0 ∷ []) 1 (128 * ρ .nodes) refl in
+      let lc = length-many (ρ .nodes * ρ .rows) (encode (storedCell fresh)) in
+      let lh = length-many (128 * ρ .nodes) (0 ∷ []) in
       rw (length-patch (m .cells) (many (ρ .nodes * ρ .rows) (encode (storedCell fresh))) 0 (omega arith), length-patch (m .heard) (many (128 * ρ .nodes) (0 ∷ [])) 0 (omega arith)) t
 
   pub begun : Begun ρ (opening ρ m)
   begun = rw opens-to (record {
-    whole = record { typed = record { stations = length-fit 64 []; serials = length-fit 64 [] }; counts = counts-back ρ (tests .0); long = lengthy; form = in-form m′ form };
+    whole = record { typed = record { stations = length-fit 64 []; serials = length-fit 64 [] }; counts = counted; long = lengthy; form = in-form m′ form };
     room = room;
     empty = reads;
   })

@@ -38,6 +38,12 @@ length-fit zero l = refl
 length-fit (suc n) [] = ap suc (length-fit n [])
 length-fit (suc n) (x ∷ l) = ap suc (length-fit n l)
 
+-- what was fitted is read again
+pub take-fit : (n : ℕ) (l : List ℕ) → length l ≤ n → take (length l) (fit n l) ≡ l
+take-fit n [] h = refl
+take-fit zero (x ∷ l) h = absurd (omega arith)
+take-fit (suc n) (x ∷ l) h = ap (λ (t : List ℕ). x ∷ t) (take-fit n l (omega arith))
+
 pub pairs-back : (ps : List Pair) (n : ℕ) → 2 * length ps ≤ n → pairsOf (length ps) (fit n (flatten ps)) ≡ ps
 pairs-back [] n h = refl
 pairs-back (p ∷ ps) zero h = absurd (omega arith)

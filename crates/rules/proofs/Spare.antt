@@ -501,7 +501,7 @@ room-stays m c = room-write m (change m c)
 
 -- ---- opening
 
-length-many : (n : ℕ) (w : List ℕ) → length (many n w) ≡ n * length w
+pub length-many : (n : ℕ) (w : List ℕ) → length (many n w) ≡ n * length w
 length-many zero w = sym (zero-mul (length w))
 length-many (suc n) w = length-append w (many n w) ∙ omega (arith, length-many n w, suc-mul n (length w))
 
@@ -518,11 +518,12 @@ length-cells ρ = omega (arith, length-many (ρ .nodes * ρ .rows) (encode (stor
 length-silence : (ρ : Room) → length (silence ρ) ≡ 128 * ρ .nodes
 length-silence ρ = omega (arith, length-many (128 * ρ .nodes) (0 ∷ []))
 
-record Wide (ρ : Room) (m : Memory) : Type 0 where
-  cells : 36 * (ρ .nodes * ρ .rows) ≤ length (m .cells)
-  heard : 128 * ρ .nodes ≤ length (m .heard)
+-- the areas are long enough for it
+pub record Wide (ρ : Room) (m : Memory) : Type 0 where
+  pub cells : 36 * (ρ .nodes * ρ .rows) ≤ length (m .cells)
+  pub heard : 128 * ρ .nodes ≤ length (m .heard)
 
-wide : (ρ : Room) (m : Memory) → openReply ρ m ≡ 0 → Wide ρ m
+pub wide : (ρ : Room) (m : Memory) → openReply ρ m ≡ 0 → Wide ρ m
 unfolding openReply
 wide ρ m e =
     let t = clear (openTests ρ m) tt e .1 .0 in

@@ -1,21 +1,18 @@
--- Lists of sets as opening is handed them and as the house record has them, and the house record that opening makes.
+-- Lists of sets as opening is handed them and as the house record has them.
 use mathlib.Core.Path.{_≡_, refl, ap, sym, _∙_}
-use mathlib.Core.Bool.{Bool, true, false, _&&_, and-true}
-use mathlib.Core.Logic.{_⊎_, inl, inr}
-use mathlib.Core.List.{List, [], _∷_, _++_}
+use mathlib.Core.Bool.{Bool, true, false, _&&_}
+use mathlib.Core.List.{List, [], _∷_}
 use Prim.Native.Nat.{ℕ, zero, suc, _+_, _^_, _≤_, _<_}
 use native.Mathlib.Numerals.{add-one}
 use native.Mathlib.Omega.{arith}
 use borrow.Author.Tests.{ltb-true, ltb-false}
-use lib.Dec.{leb, ltb, leb·zero}
+use lib.Dec.{ltb}
 use lib.ListN.{length, getD, take, set, List·getD-eq-default}
 use lib.Pow.{pow-mono}
 use lib.Seq.{take-length}
 use Rattle.rules.specs.Tests.{all, allBelow, fit, first}
-use Rattle.rules.specs.Words.{Room}
-use Rattle.rules.specs.Lent.{roomOf, counts, tables}
-use Rattle.rules.specs.Replies.{roomCounts, houseOf}
-use Rattle.rules.proofs.Codec.{length-fit}
+use Rattle.rules.specs.Lent.{tables}
+use Rattle.rules.proofs.Codec.{take-fit}
 use Rattle.rules.proofs.Each.{each-at, all-take}
 use Rattle.tables.specs.declared.Asked.the-variants.{Strong}
 use Rattle.tables.specs.Tables.{passes, share, withLists}
@@ -30,12 +27,6 @@ fit-more zero i l a b = absurd (omega arith)
 fit-more (suc n) i [] a b = absurd (omega arith)
 fit-more (suc n) zero (x ∷ l) a b = refl
 fit-more (suc n) (suc i) (x ∷ l) a b = ap (λ (t : List ℕ). x ∷ t) (fit-more n i l (omega arith) (omega arith)) ∙ sym (rw (add-one (suc i), add-one i))
-
--- what fitted is read again
-pub take-fit : (n : ℕ) (l : List ℕ) → length l ≤ n → take (length l) (fit n l) ≡ l
-take-fit n [] h = refl
-take-fit zero (x ∷ l) h = absurd (omega arith)
-take-fit (suc n) (x ∷ l) h = ap (λ (t : List ℕ). x ∷ t) (take-fit n l (omega arith))
 
 -- sets that name present nodes are bytes
 pub set-bytes : (nodes : ℕ) (l : List ℕ) → nodes ≤ 8 → all (λ q. ltb q (2 ^ nodes)) l ≡ true → (i : ℕ) → getD l i 0 < 256
@@ -58,13 +49,3 @@ lists-are nodes faulty q w a b c d h l p r s t =
     let u : all (λ p. all (share nodes faulty p) q) q ≡ c = rw (take-fit 64 q h) at s in
     let v : all (passes nodes faulty Strong) w ≡ d = rw (take-fit 64 w l) at t in
     λ i. first ((p i && r i, 2) ∷ (u i, 3) ∷ (v i, 4) ∷ [])
-
--- ---- the house record that opening makes
-
-pub house-room : (ρ : Room) → length (ρ .quorums) ≤ 64 → length (ρ .weaks) ≤ 64 → roomOf (houseOf ρ) ≡ ρ
-house-room ρ a b =
-    λ i. record { nodes = ρ .nodes; faulty = ρ .faulty; rows = ρ .rows; capacity = ρ .capacity; quorums = take-fit 64 (ρ .quorums) a i; weaks = take-fit 64 (ρ .weaks) b i }
-
-pub house-counts : (ρ : Room) → counts (houseOf ρ) ≡ roomCounts ρ
-unfolding counts
-house-counts ρ = rw (leb·zero (ρ .capacity), and-true)

@@ -1,0 +1,4 @@
+pub mod Filled
+pub mod Housed
+pub mod Judged
+pub mod Opened

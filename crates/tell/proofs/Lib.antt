@@ -1,0 +1,4 @@
+pub mod Votes
+pub mod Chosen
+pub mod Lines
+pub mod Past
