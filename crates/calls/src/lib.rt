@@ -24,7 +24,7 @@ pub struct Outcome {
 }
 
 // A refusal gives its number alone, and the house record as it was.
-pub fn refused(house: House, k: u8) -> Outcome
+fn refused(house: House, k: u8) -> Outcome
     requires { ⌜ 1 ≤ k ⌝ }
     requires { ⌜ k ≤ 19 ⌝ }
     ensures { λ r. ⌜ (answerOf (r .reply) ≡ bare k) × (r .house ≡ house) ⌝ }

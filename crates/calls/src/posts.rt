@@ -3,10 +3,10 @@ ghost use mathlib.Core.Path.{_≡_};
 ghost use Rattle.rules.specs.Lent.{memory};
 ghost use Rattle.rules.specs.Steps as steps;
 ghost use Rattle.rules.specs.Replies.{answerOf, Did};
-ghost use Rattle.foreign.specs.Given.{postOf};
-use foreign::Post;
+ghost use Rattle.step.specs.Given.{postOf};
 use rules::House;
 use rules::Reply;
+use step::Post;
 
 pub fn post_foreign(
     house: House,

@@ -17,7 +17,7 @@ use Rattle.kept.proofs.Lists.{and-two, all-more, by-no}
 use Rattle.pairs.specs.Pairs.{passes}
 use Rattle.pairs.specs.declared.Ask.the-variants.{Limits}
 use Rattle.pairs.proofs.Arrays.{length-pairs, inside}
-use Rattle.foreign.specs.Given.{byte}
+use Rattle.foreign.specs.Bytes.{byte}
 
 pub each-byte : (s : List ℕ) (i : ℕ) → T (all byte s) → i < length s → getD s i 0 ≤ 255
 each-byte [] i t h = absurd (omega arith)

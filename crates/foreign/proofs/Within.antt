@@ -17,7 +17,7 @@ use Rattle.rules.proofs.Scan.{eqs-means}
 use Rattle.pairs.specs.Pairs.{passes}
 use Rattle.pairs.specs.declared.Ask.the-variants.{Scanned}
 use Rattle.pairs.proofs.Arrays.{length-pairs}
-use Rattle.foreign.specs.Given.{byte}
+use Rattle.foreign.specs.Bytes.{byte}
 use Rattle.foreign.proofs.Bytes.{count-in, in-bytes}
 
 pub vote-says : (ρ : Room) (r b n v : ℕ) → T (limits ρ (m2av r b n v)) → (r ≤ ρ .rows) × (b ≤ 15) × (n < ρ .nodes) × (v ≤ 64)

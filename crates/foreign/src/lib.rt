@@ -10,39 +10,15 @@ ghost use Rattle.rules.specs.Steps.{foreign, posted};
 ghost use Rattle.rules.specs.Replies.{postIn, reply, after};
 ghost use Rattle.kept.specs.Kept.{Whole};
 ghost use Rattle.judge.specs.Judged.{verdict};
-ghost use Rattle.foreign.specs.Given.{postOf};
+ghost use Rattle.step.specs.Given.{postOf};
 use rules::Ballot;
 use rules::House;
 use rules::Message;
 use rules::Node;
 use rules::Row;
 use rules::Tube;
-
-// A foreign 1b as it is handed over: mbal is 255 for none, and its pairs travel beside it.
-pub struct OneB {
-    pub row: u32,
-    pub bal: u32,
-    pub node: u32,
-    pub mbal: u32,
-    pub mval: u32,
-    pub count: u32,
-}
-
-// A foreign 2av or 2b as it is handed over.
-pub struct Vote {
-    pub row: u32,
-    pub bal: u32,
-    pub node: u32,
-    pub tube: u32,
-}
-
-// A foreign post: a 1b, a 2av, a 2b, or another kind.
-pub enum Post {
-    OneB(OneB),
-    Relay(Vote),
-    Accept(Vote),
-    Other,
-}
+use step::Post;
+use step::Vote;
 
 // Test 6: every field within its limits; another kind is not.
 pub fn fields_in(h: House, post: Post, pairs: [u32; 32]) -> bool
@@ -50,8 +26,8 @@ pub fn fields_in(h: House, post: Post, pairs: [u32; 32]) -> bool
 {
     match post {
         Post::OneB(p) => crate::promise::fields_1b(h, p, pairs),
-        Post::Relay(v) => judge::limits::vote_in(h, v.row, v.bal, v.node, v.tube),
-        Post::Accept(v) => judge::limits::vote_in(h, v.row, v.bal, v.node, v.tube),
+        Post::Relay(v) => judge::limits::vote_in(h, v.row, v.ballot, v.node, v.tube),
+        Post::Accept(v) => judge::limits::vote_in(h, v.row, v.ballot, v.node, v.tube),
         Post::Other => false,
     }
 }
@@ -71,11 +47,11 @@ pub fn tubes_in(h: House, post: Post, pairs: [u32; 32]) -> bool
 
 // A 2av or a 2b within limits, as it is stored.
 pub fn message_vote(h: House, kind: u8, v: Vote) -> Message
-    requires { ⌜ T (limits (roomOf h) (m2av (v .row) (v .bal) (v .node) (v .tube))) ⌝ }
-    ensures { λ r. ⌜ r ≡ line kind (v .row) (v .bal) (v .node) (v .tube) 0 0 [] ⌝ }
+    requires { ⌜ T (limits (roomOf h) (m2av (v .row) (v .ballot) (v .node) (v .tube))) ⌝ }
+    ensures { λ r. ⌜ r ≡ line kind (v .row) (v .ballot) (v .node) (v .tube) 0 0 [] ⌝ }
 {
     let row = Row(v.row as u8);
-    let ballot = Ballot(v.bal as u8);
+    let ballot = Ballot(v.ballot as u8);
     let node = Node(v.node as u8);
     let tube = Tube(v.tube as u8);
     board::bare(kind, row, ballot, node, tube)

@@ -7,10 +7,10 @@ ghost use Rattle.rules.specs.Words.{heightOf};
 ghost use Rattle.rules.specs.Lent.{roomOf, stored, scanned, pairsOf, pairsIn};
 ghost use Rattle.rules.specs.Steps.{p1b, posted};
 ghost use Rattle.rules.specs.Replies.{postIn, pairsPlain};
-ghost use Rattle.foreign.specs.Given.{byte};
-use crate::OneB;
+ghost use Rattle.foreign.specs.Bytes.{byte};
 use rules::House;
 use rules::Message;
+use step::OneB;
 
 // Whether every number of the array is a byte.
 pub fn all_bytes(pairs: [u32; 32]) -> bool
@@ -51,7 +51,7 @@ pub fn height_in(mbal: u32) -> bool
 }
 
 // Whether the pairs are sixteen at most, within limits and ascending, and every unused one is 0.
-pub fn pairs_in(pairs: [u32; 32], count: u32) -> bool
+pub fn pairs_in(pairs: [u32; 32], count: usize) -> bool
     ensures { λ r. ⌜ r ≡ pairsIn (pairsOf count pairs) && pairsPlain count pairs ⌝ }
 {
     if count > 16 {
@@ -66,9 +66,9 @@ pub fn pairs_in(pairs: [u32; 32], count: u32) -> bool
 
 // Every field within its limits.
 pub fn fields_1b(h: House, p: OneB, pairs: [u32; 32]) -> bool
-    ensures { λ r. ⌜ r ≡ postIn (roomOf h) (p1b (p .row) (p .bal) (p .node) (p .mbal) (p .mval) (p .count) pairs) ⌝ }
+    ensures { λ r. ⌜ r ≡ postIn (roomOf h) (p1b (p .row) (p .ballot) (p .node) (p .mbal) (p .mval) (p .count) pairs) ⌝ }
 {
-    if !judge::limits::promise_in(h, p.row, p.bal, p.node) {
+    if !judge::limits::promise_in(h, p.row, p.ballot, p.node) {
         return false;
     }
     if !height_in(p.mbal) {
@@ -82,8 +82,8 @@ pub fn fields_1b(h: House, p: OneB, pairs: [u32; 32]) -> bool
 
 // Its mval and the tubes of its pairs are on intake.
 pub fn tubes_1b(h: House, p: OneB, pairs: [u32; 32]) -> bool
-    requires { ⌜ T (postIn (roomOf h) (p1b (p .row) (p .bal) (p .node) (p .mbal) (p .mval) (p .count) pairs)) ⌝ }
-    ensures { λ r. ⌜ r ≡ scanned (h .tubes) (posted (p1b (p .row) (p .bal) (p .node) (p .mbal) (p .mval) (p .count) pairs)) ⌝ }
+    requires { ⌜ T (postIn (roomOf h) (p1b (p .row) (p .ballot) (p .node) (p .mbal) (p .mval) (p .count) pairs)) ⌝ }
+    ensures { λ r. ⌜ r ≡ scanned (h .tubes) (posted (p1b (p .row) (p .ballot) (p .node) (p .mbal) (p .mval) (p .count) pairs)) ⌝ }
 {
     if !judge::limits::on_intake(h, p.mval) {
         return false;
@@ -94,14 +94,14 @@ pub fn tubes_1b(h: House, p: OneB, pairs: [u32; 32]) -> bool
 
 // The message within limits, as it is stored.
 pub fn message_1b(h: House, p: OneB, pairs: [u32; 32]) -> Message
-    requires { ⌜ T (postIn (roomOf h) (p1b (p .row) (p .bal) (p .node) (p .mbal) (p .mval) (p .count) pairs)) ⌝ }
-    ensures { λ r. ⌜ r ≡ stored (posted (p1b (p .row) (p .bal) (p .node) (p .mbal) (p .mval) (p .count) pairs)) ⌝ }
+    requires { ⌜ T (postIn (roomOf h) (p1b (p .row) (p .ballot) (p .node) (p .mbal) (p .mval) (p .count) pairs)) ⌝ }
+    ensures { λ r. ⌜ r ≡ stored (posted (p1b (p .row) (p .ballot) (p .node) (p .mbal) (p .mval) (p .count) pairs)) ⌝ }
 {
     let bytes = narrowed(pairs);
     Message {
         kind: 2,
         row: p.row as u8,
-        bal: p.bal as u8,
+        bal: p.ballot as u8,
         node: p.node as u8,
         tube: 0,
         mbal: p.mbal as u8,

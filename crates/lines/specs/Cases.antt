@@ -3,7 +3,8 @@ use mathlib.Core.List.{List, [], _∷_, _++_}
 use Prim.Native.Nat.{ℕ}
 use Rattle.rules.specs.Tests.{fit, many}
 use Rattle.lines.specs.declared.Heading.the-variants.{Nodes, Faulty, Rows, Capacity, Quorum, Weak}
-use Rattle.lines.specs.declared.Step.the-variants.{Scan, Send1a, Send1b, Send1c, Send2av, Send2b, Hear, Foreign1b, Foreign2av, Foreign2b}
+use Rattle.step.specs.declared.Post.the-variants.{OneB, Relay, Accept}
+use Rattle.step.specs.declared.Step.the-variants.{Scan, Send1a, Send1b, Send1c, Send2av, Send2b, Hear, Foreign}
 use Rattle.lines.specs.declared.Line.{Line}
 use Rattle.lines.specs.declared.Line.the-variants.{Heading, Step, Bad}
 use Rattle.lines.specs.declared.Parsed.{Parsed}
@@ -19,7 +20,7 @@ abbrev pub case : List ℕ → Line → Case
 case s l = record { bytes = s; line = l; pairs = [] }
 
 abbrev pub listed : List ℕ → ℕ → List ℕ → Case
-listed s n ps = record { bytes = text "do=foreign1b row=1 ballot=2 node=0 mbal=255 mval=0 pairs=" ++ s; line = Step (Foreign1b 1 2 0 255 0 n); pairs = ps }
+listed s n ps = record { bytes = text "do=foreign1b row=1 ballot=2 node=0 mbal=255 mval=0 pairs=" ++ s; line = Step (Foreign (OneB (record { row = 1; ballot = 2; node = 0; mbal = 255; mval = 0; count = n }))); pairs = ps }
 
 abbrev pub unlisted : List ℕ → Case
 unlisted s = case (text "do=foreign1b row=1 ballot=2 node=0 mbal=255 mval=0 pairs=" ++ s) Bad
@@ -48,8 +49,8 @@ cases =
     ∷ case (text "do=2av row=1 ballot=0 node=0 tube=2") (Step (Send2av 1 0 0 2))
     ∷ case (text "do=2b row=1 ballot=0 node=0 tube=2") (Step (Send2b 1 0 0 2))
     -- foreign lines
-    ∷ case (text "do=foreign2av row=1 ballot=0 node=0 tube=2") (Step (Foreign2av 1 0 0 2))
-    ∷ case (text "do=foreign2b row=1 ballot=0 node=0 tube=2") (Step (Foreign2b 1 0 0 2))
+    ∷ case (text "do=foreign2av row=1 ballot=0 node=0 tube=2") (Step (Foreign (Relay (record { row = 1; ballot = 0; node = 0; tube = 2 }))))
+    ∷ case (text "do=foreign2b row=1 ballot=0 node=0 tube=2") (Step (Foreign (Accept (record { row = 1; ballot = 0; node = 0; tube = 2 }))))
     ∷ listed [] 0 []
     ∷ listed (text "2:0") 1 (2 ∷ 0 ∷ [])
     ∷ listed (text "2:0,3:1") 2 (2 ∷ 0 ∷ 3 ∷ 1 ∷ [])

@@ -13,7 +13,8 @@ use Rattle.rules.specs.Lent.{pairBytes}
 use Rattle.lines.specs.declared.Number.{Number}
 use Rattle.lines.specs.declared.Number.the-variants as number
 use Rattle.lines.specs.declared.Heading.the-variants.{Nodes, Faulty, Rows, Capacity, Quorum, Weak}
-use Rattle.lines.specs.declared.Step.the-variants.{Scan, Send1a, Send1b, Send1c, Send2av, Send2b, Hear, Foreign1b, Foreign2av, Foreign2b}
+use Rattle.step.specs.declared.Post.the-variants.{OneB, Relay, Accept}
+use Rattle.step.specs.declared.Step.the-variants.{Scan, Send1a, Send1b, Send1c, Send2av, Send2b, Hear, Foreign}
 use Rattle.lines.specs.declared.Line.{Line}
 use Rattle.lines.specs.declared.Line.the-variants.{Heading, Step, Bad}
 use Rattle.lines.specs.declared.Fields.{Fields}
@@ -96,9 +97,9 @@ forms =
     ∷ (text "do=2av row=# ballot=# node=# tube=#", λ n c. Step (Send2av (getD n 0 0) (getD n 1 0) (getD n 2 0) (getD n 3 0)))
     ∷ (text "do=2b row=# ballot=# node=# tube=#", λ n c. Step (Send2b (getD n 0 0) (getD n 1 0) (getD n 2 0) (getD n 3 0)))
     ∷ (text "do=hear node=# message=#", λ n c. Step (Hear (getD n 0 0) (getD n 1 0)))
-    ∷ (text "do=foreign1b row=# ballot=# node=# mbal=# mval=# pairs=*", λ n c. Step (Foreign1b (getD n 0 0) (getD n 1 0) (getD n 2 0) (getD n 3 0) (getD n 4 0) c))
-    ∷ (text "do=foreign2av row=# ballot=# node=# tube=#", λ n c. Step (Foreign2av (getD n 0 0) (getD n 1 0) (getD n 2 0) (getD n 3 0)))
-    ∷ (text "do=foreign2b row=# ballot=# node=# tube=#", λ n c. Step (Foreign2b (getD n 0 0) (getD n 1 0) (getD n 2 0) (getD n 3 0)))
+    ∷ (text "do=foreign1b row=# ballot=# node=# mbal=# mval=# pairs=*", λ n c. Step (Foreign (OneB (record { row = getD n 0 0; ballot = getD n 1 0; node = getD n 2 0; mbal = getD n 3 0; mval = getD n 4 0; count = c }))))
+    ∷ (text "do=foreign2av row=# ballot=# node=# tube=#", λ n c. Step (Foreign (Relay (record { row = getD n 0 0; ballot = getD n 1 0; node = getD n 2 0; tube = getD n 3 0 }))))
+    ∷ (text "do=foreign2b row=# ballot=# node=# tube=#", λ n c. Step (Foreign (Accept (record { row = getD n 0 0; ballot = getD n 1 0; node = getD n 2 0; tube = getD n 3 0 }))))
     ∷ []
 
 -- ---- a line: the first form that fits, by its number from 1, with its numbers and pairs; 0 for a bad line

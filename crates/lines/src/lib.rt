@@ -9,6 +9,10 @@ ghost use Rattle.lines.specs.Splits.{next};
 ghost use Rattle.lines.specs.Decimal.{most, isDigit, follows, numberAt, decimal};
 ghost use Rattle.lines.specs.Grammar.{stands, pairIn, pairsOf, byForm, forms, nothing, orElse, found, lineAs, parsed};
 ghost use Rattle.lines.specs.Held.{endOr, coupleOf, heldPairs, kept, withPairs, marks};
+use step::OneB;
+use step::Post;
+use step::Step;
+use step::Vote;
 
 // Where a line ends: at a newline, or not yet in what was read.
 pub enum End {
@@ -30,64 +34,6 @@ pub enum Heading {
     Capacity(u32),
     Quorum(u32),
     Weak(u32),
-}
-
-// A step line, with the numbers as they stand on it; a foreign 1b's pairs travel beside it.
-pub enum Step {
-    Scan {
-        station: u32,
-        serial: u32,
-    },
-    Send1a {
-        row: u32,
-        ballot: u32,
-    },
-    Send1b {
-        row: u32,
-        ballot: u32,
-        node: u32,
-    },
-    Send1c {
-        row: u32,
-        ballot: u32,
-        tube: u32,
-    },
-    Send2av {
-        row: u32,
-        ballot: u32,
-        node: u32,
-        tube: u32,
-    },
-    Send2b {
-        row: u32,
-        ballot: u32,
-        node: u32,
-        tube: u32,
-    },
-    Hear {
-        node: u32,
-        message: u32,
-    },
-    Foreign1b {
-        row: u32,
-        ballot: u32,
-        node: u32,
-        mbal: u32,
-        mval: u32,
-        count: usize,
-    },
-    Foreign2av {
-        row: u32,
-        ballot: u32,
-        node: u32,
-        tube: u32,
-    },
-    Foreign2b {
-        row: u32,
-        ballot: u32,
-        node: u32,
-        tube: u32,
-    },
 }
 
 // What a line is.
@@ -447,26 +393,26 @@ fn line_of(f: Fields) -> Line
             node: a,
             message: b,
         }),
-        14 => Line::Step(Step::Foreign1b {
+        14 => Line::Step(Step::Foreign(Post::OneB(OneB {
             row: a,
             ballot: b,
             node: c,
             mbal: d,
             mval: e,
             count,
-        }),
-        15 => Line::Step(Step::Foreign2av {
+        }))),
+        15 => Line::Step(Step::Foreign(Post::Relay(Vote {
             row: a,
             ballot: b,
             node: c,
             tube: d,
-        }),
-        16 => Line::Step(Step::Foreign2b {
+        }))),
+        16 => Line::Step(Step::Foreign(Post::Accept(Vote {
             row: a,
             ballot: b,
             node: c,
             tube: d,
-        }),
+        }))),
         _ => Line::Bad,
     }
 }

@@ -12,7 +12,7 @@ use Rattle.kept.proofs.Ready.{Passed, passed, ready}
 use Rattle.judge.proofs.Past.{bounds}
 use Rattle.write.proofs.Acts.{postable}
 use Rattle.write.proofs.Acts as acts
-use Rattle.foreign.specs.Given.{postOf}
+use Rattle.step.specs.Given.{postOf}
 use Rattle.foreign.proofs.Posts.{poster-in, poster-stored, marked-after}
 use Rattle.foreign.proofs.act_foreign.Statement.{statement}
 use Rattle.foreign.proofs.act_foreign.Tie as tie

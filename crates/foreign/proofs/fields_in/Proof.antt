@@ -4,8 +4,8 @@ use mathlib.Core.Bool.{Bool}
 use borrow.Author.Needs.{needs}
 use Rattle.rules.specs.Lent.{roomOf, limits}
 use Rattle.rules.specs.Replies.{postIn}
-use Rattle.foreign.specs.declared.Post.{Post}
-use Rattle.foreign.specs.Given.{postOf}
+use Rattle.step.specs.declared.Post.{Post}
+use Rattle.step.specs.Given.{postOf}
 use Rattle.foreign.proofs.fields_in.Statement.{statement}
 use Rattle.foreign.proofs.fields_in.Tie as tie
 

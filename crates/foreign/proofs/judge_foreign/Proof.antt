@@ -9,7 +9,7 @@ use Rattle.rules.specs.Replies.{postIn}
 use Rattle.rules.proofs.Codec.{Small}
 use Rattle.board.proofs.Bytes.{own-stored}
 use Rattle.judge.proofs.Past.{plain, fits-means}
-use Rattle.foreign.specs.Given.{postOf}
+use Rattle.step.specs.Given.{postOf}
 use Rattle.foreign.proofs.Posts.{true-holds, says-foreign, small-post}
 use Rattle.foreign.proofs.judge_foreign.Statement.{statement}
 use Rattle.foreign.proofs.judge_foreign.Tie as tie

@@ -7,8 +7,8 @@ use Rattle.rules.specs.Steps.{posted}
 use Rattle.rules.specs.Replies.{postIn}
 use Rattle.rules.specs.declared.Message.{Message}
 use Rattle.foreign.proofs.Posts.{carry}
-use Rattle.foreign.specs.declared.Post.{Post}
-use Rattle.foreign.specs.Given.{postOf}
+use Rattle.step.specs.declared.Post.{Post}
+use Rattle.step.specs.Given.{postOf}
 use Rattle.foreign.proofs.message.Statement.{statement}
 use Rattle.foreign.proofs.message.Tie as tie
 

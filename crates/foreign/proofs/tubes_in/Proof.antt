@@ -6,8 +6,8 @@ use Rattle.rules.specs.Lent.{roomOf, scanned}
 use Rattle.rules.specs.Steps.{posted}
 use Rattle.rules.specs.Replies.{postIn}
 use Rattle.foreign.proofs.Posts.{carry}
-use Rattle.foreign.specs.declared.Post.{Post}
-use Rattle.foreign.specs.Given.{postOf}
+use Rattle.step.specs.declared.Post.{Post}
+use Rattle.step.specs.Given.{postOf}
 use Rattle.foreign.proofs.tubes_in.Statement.{statement}
 use Rattle.foreign.proofs.tubes_in.Tie as tie
 

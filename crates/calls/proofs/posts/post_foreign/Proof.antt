@@ -6,7 +6,7 @@ use Rattle.rules.specs.Lent.{Memory, memory, Typed}
 use Rattle.rules.specs.Steps.{Call, foreign}
 use Rattle.rules.specs.Replies.{gate, reply, tell}
 use Rattle.kept.specs.Kept.{Whole}
-use Rattle.foreign.specs.Given.{postOf}
+use Rattle.step.specs.Given.{postOf}
 use Rattle.calls.proofs.Call.{past, at-gate, by-judge, named, refused, done}
 use Rattle.calls.proofs.posts.post_foreign.Statement.{statement}
 use Rattle.calls.proofs.posts.post_foreign.Tie as tie

@@ -8,7 +8,7 @@ use borrow.Author.Tests.{lt-leb, le-leb}
 use lib.ListN.{length, getD, drop, drop-of-length-le}
 use lib.Seq.{drop-cons}
 use Rattle.rules.specs.Tests.{all}
-use Rattle.foreign.specs.Given.{byte}
+use Rattle.foreign.specs.Bytes.{byte}
 use Rattle.foreign.proofs.promise.all_bytes.Statement.{statement}
 use Rattle.foreign.proofs.promise.all_bytes.Tie as tie
 

@@ -9,10 +9,10 @@ use Rattle.foreign.proofs.promise.message_1b.Statement.{statement}
 use Rattle.foreign.proofs.promise.message_1b.Tie as tie
 
 -- it passed test 6
-found : (b : tie.Start) → let a = b .args in Within (roomOf (a .h)) (a .p .row) (a .p .bal) (a .p .node) (a .p .mbal) (a .p .mval) (a .p .count) (a .pairs)
+found : (b : tie.Start) → let a = b .args in Within (roomOf (a .h)) (a .p .row) (a .p .ballot) (a .p .node) (a .p .mbal) (a .p .mval) (a .p .count) (a .pairs)
 found b = let a = b .args in
     let len : length (a .pairs) ≡ 32 = search needs in
-    within (roomOf (a .h)) (a .p .row) (a .p .bal) (a .p .node) (a .p .mbal) (a .p .mval) (a .p .count) (a .pairs) len (b .pre)
+    within (roomOf (a .h)) (a .p .row) (a .p .ballot) (a .p .node) (a .p .mbal) (a .p .mval) (a .p .count) (a .pairs) len (b .pre)
 
 narrowed-requires : tie.Need-narrowed-requires
 narrowed-requires c κs = found c .bytes
@@ -40,8 +40,8 @@ returns c =
     let n = c .before .before .before .before .before .before in
     let b = n .before in
     let a = b .args in
-    ap (carried (a .p .row) (a .p .bal) (a .p .node) (a .p .mbal) (a .p .mval) (a .p .count)) (n .narrowed .ensures)
-    ∙ stored-1b (roomOf (a .h)) (a .p .row) (a .p .bal) (a .p .node) (a .p .mbal) (a .p .mval) (a .p .count) (a .pairs) (found b)
+    ap (carried (a .p .row) (a .p .ballot) (a .p .node) (a .p .mbal) (a .p .mval) (a .p .count)) (n .narrowed .ensures)
+    ∙ stored-1b (roomOf (a .h)) (a .p .row) (a .p .ballot) (a .p .node) (a .p .mbal) (a .p .mval) (a .p .count) (a .pairs) (found b)
 
 pub message-1b-spec : {M : Type 1} → statement M
 message-1b-spec = tie.close (tie.spec narrowed-requires cast-t5 cast-t6 cast-t7 cast-t8 cast-t9 cast-t10 returns)

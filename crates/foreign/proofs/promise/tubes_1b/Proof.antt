@@ -16,10 +16,10 @@ use Rattle.foreign.proofs.promise.tubes_1b.Statement.{statement}
 use Rattle.foreign.proofs.promise.tubes_1b.Tie as tie
 
 -- it passed test 6
-found : (b : tie.Start) → let a = b .args in Within (roomOf (a .h)) (a .p .row) (a .p .bal) (a .p .node) (a .p .mbal) (a .p .mval) (a .p .count) (a .pairs)
+found : (b : tie.Start) → let a = b .args in Within (roomOf (a .h)) (a .p .row) (a .p .ballot) (a .p .node) (a .p .mbal) (a .p .mval) (a .p .count) (a .pairs)
 found b = let a = b .args in
     let len : length (a .pairs) ≡ 32 = search needs in
-    within (roomOf (a .h)) (a .p .row) (a .p .bal) (a .p .node) (a .p .mbal) (a .p .mval) (a .p .count) (a .pairs) len (b .pre)
+    within (roomOf (a .h)) (a .p .row) (a .p .ballot) (a .p .node) (a .p .mbal) (a .p .mval) (a .p .count) (a .pairs) len (b .pre)
 
 on-intake-requires : tie.Need-on-intake-requires
 on-intake-requires c κs = search needs
@@ -27,7 +27,7 @@ on-intake-requires c κs = search needs
 returns : tie.Need-returns
 returns c =
     let a = c .before .before .args in
-    tubes-as (a .h .tubes) (a .p .row) (a .p .bal) (a .p .node) (a .p .mbal) (a .p .mval) (a .p .count) (a .pairs) false (sym (c .before .on-intake .ensures) ∙ not-true _ (c .if1 .taken))
+    tubes-as (a .h .tubes) (a .p .row) (a .p .ballot) (a .p .node) (a .p .mbal) (a .p .mval) (a .p .count) (a .pairs) false (sym (c .before .on-intake .ensures) ∙ not-true _ (c .if1 .taken))
 
 narrowed-requires : tie.Need-narrowed-requires
 narrowed-requires c κs = found (c .before .before) .bytes
@@ -44,7 +44,7 @@ returns-2 c =
     let e = n .before in
     let a = e .before .before .args in
     c .each .ensures ∙ ap (λ (l : List ℕ). all (passes (Scanned (a .h .tubes))) (pairsOf (a .p .count) l)) (n .narrowed .ensures)
-    ∙ tubes-as (a .h .tubes) (a .p .row) (a .p .bal) (a .p .node) (a .p .mbal) (a .p .mval) (a .p .count) (a .pairs) true (sym (e .before .on-intake .ensures) ∙ not-false _ (e .if1 .left))
+    ∙ tubes-as (a .h .tubes) (a .p .row) (a .p .ballot) (a .p .node) (a .p .mbal) (a .p .mval) (a .p .count) (a .pairs) true (sym (e .before .on-intake .ensures) ∙ not-false _ (e .if1 .left))
 
 pub tubes-1b-spec : {M : Type 1} → statement M
 tubes-1b-spec = tie.close (tie.spec on-intake-requires returns narrowed-requires cast-each each-requires returns-2)

@@ -1,0 +1,1 @@
+// The sheet's headings as they are read, line by line.
