@@ -116,3 +116,8 @@ long-enough s h = rw (le-leb (length s) 200 h)
 pub said : (s : List ℕ) (f : Fields) (l : Line) → fieldsOf s ≡ f → l ≡ lineAs f → _≡_ {A = Parsed} (record { line = l; pairs = f .pairs }) (parsed s)
 unfolding parsed lineOf
 said s f l e g = let back = sym e in λ i. record { line = (g ∙ ap lineAs back) i; pairs = back i .pairs }
+
+-- all lines of more than 200 bytes say the same
+pub long-alike : (s t : List ℕ) → 200 < length s → 200 < length t → parsed s ≡ parsed t
+unfolding parsed lineOf
+long-alike s t h k = ap (λ (f : Fields). record { line = lineAs f; pairs = f .pairs }) (too-long s h ∙ sym (too-long t k))
