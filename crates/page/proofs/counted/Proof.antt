@@ -1,0 +1,28 @@
+-- `counted` meets its contract: past the four counts the definition stores nothing.
+use borrow.Author.Needs.{needs}
+use mathlib.Core.Path.{_≡_}
+use Prim.Native.Nat.{_≤_}
+use native.Mathlib.Omega.{arith}
+use lib.ListN.{length}
+use Rattle.page.proofs.Listed.{set-past}
+use Rattle.page.proofs.counted.Statement.{statement}
+use Rattle.page.proofs.counted.Tie as tie
+
+returns : tie.Need-returns
+returns c =
+    let a = c .before .args in
+    let len : length (a .t1) ≡ 4 = search needs in
+    let past : length (a .t1) ≤ a .k = omega arith in
+    set-past (a .t1) (a .k) (a .n) past
+
+mul-counts : tie.Need-mul-counts
+mul-counts c = search needs
+
+array-write-counts : tie.Need-array-write-counts
+array-write-counts c = search needs
+
+returns-2 : tie.Need-returns-2
+returns-2 c = search needs
+
+pub counted-spec : {M : Type 1} → statement M
+counted-spec = tie.close (tie.spec returns mul-counts array-write-counts returns-2)
