@@ -10,14 +10,14 @@ use Rattle.page.specs.Sheet as sheet
 use Rattle.page.specs.declared.Heads.{Heads}
 use Rattle.page.specs.declared.Sets.{Sets}
 
--- the sets of a list: as many as were listed, and of more than there is room for all that there is room for
+-- the sets of a list: all that are held, if its count is higher
 abbrev pub setsOf : Sets → List ℕ
 setsOf s = take (s .count) (s .sets)
 
 abbrev pub headsOf : Heads → sheet.Heads
 headsOf h = record { due = h .due; counts = h .counts; quorums = take (h .listed) (h .quorums); weaks = take (h .backers) (h .weaks) }
 
--- the room was opened, or refused with the number k: the headings g, the memory m′ and the printed number are the definition's
+-- after opening: its number k, and the headings g, the memory m′ and what is printed are those of the definition
 pub record Started (h : sheet.Heads) (m : Memory) (g : sheet.Heads) (m′ : Memory) (k : ℕ) : Type 0 where
   pub number : k ≡ openReply (sheet.roomFor h) m
   pub turn : sheet.turn g m′ (answerText k 0) ≡ sheet.opens h m

@@ -1,6 +1,5 @@
 // The sheet's headings as they are read, line by line, and the opening of the room that they ask for.
 ghost use mathlib.Core.Path.{_≡_};
-ghost use mathlib.Core.Bool.{Bool};
 ghost use mathlib.Core.List.{List};
 ghost use Prim.Native.Nat.{ℕ, _≤_};
 ghost use lib.Dec.{eqb};
@@ -140,8 +139,8 @@ fn kept(h: Heads, k: u8, n: u32, d: u8) -> Heads
     requires { ⌜ d ≡ sheet.next (h .due) k ⌝ }
     ensures { λ r. ⌜ headsOf r ≡ sheet.kept (headsOf h) k n ⌝ }
 {
-    let before = h.counts;
-    let counts = counted(before, k, n);
+    let counts = h.counts;
+    let counts = counted(counts, k, n);
     let quorums = h.quorums;
     let q = listing(quorums, h.listed, k == 4, n);
     let weaks = h.weaks;
@@ -179,15 +178,15 @@ pub fn headed(h: Heads, line: Line) -> Heads
     kept(h, k, n, d)
 }
 
-// How many sets are held of a list.
+// How many sets of a list there is room for.
 fn held(count: usize) -> usize
     ensures { λ r. ⌜ r ≤ 65 ⌝ }
     ensures { λ r. ⌜ ((sets : List ℕ) → length sets ≡ 65 → take r sets ≡ take count sets) ⌝ }
 {
-    if 65 <= count {
-        return 65;
+    if count < 65 {
+        return count;
     }
-    count
+    65
 }
 
 // What is due after opening replied a number: a step, or nothing more.
@@ -201,13 +200,7 @@ fn due_after(number: u8) -> u8
 }
 
 // Opens the room that the headings ask for; a refusal changes nothing and ends the sheet.
-pub fn open_room(
-    h: Heads,
-    house: House,
-    board: &[u8],
-    cells: &mut [u8],
-    heard: &mut [u8],
-) -> Start
+pub fn open_room(h: Heads, house: House, board: &[u8], cells: &mut [u8], heard: &mut [u8]) -> Start
     ensures { λ r. ⌜ Started (headsOf h) (memory house (now (board .entry)) (now (cells .entry)) (now (heard .entry))) (headsOf (r .heads)) (memory (r .house) (now (board .entry)) (now (cells .exit)) (now (heard .exit))) (r .number) ⌝ }
 {
     let counts = h.counts;

@@ -1,8 +1,7 @@
 -- `counted` meets its contract: past the four counts the definition stores nothing.
-use borrow.Author.Needs.{needs}
 use mathlib.Core.Path.{_≡_}
-use Prim.Native.Nat.{_≤_}
 use native.Mathlib.Omega.{arith}
+use borrow.Author.Needs.{needs}
 use lib.ListN.{length}
 use Rattle.page.proofs.Listed.{set-past}
 use Rattle.page.proofs.counted.Statement.{statement}
@@ -12,8 +11,7 @@ returns : tie.Need-returns
 returns c =
     let a = c .before .args in
     let len : length (a .t1) ≡ 4 = search needs in
-    let past : length (a .t1) ≤ a .k = omega arith in
-    set-past (a .t1) (a .k) (a .n) past
+    set-past (a .t1) (a .k) (a .n) (omega arith)
 
 mul-counts : tie.Need-mul-counts
 mul-counts c = search needs

@@ -1,5 +1,6 @@
 -- `headed` meets its contract: by what is due after the line it ends the headings, or is kept.
 use mathlib.Core.Path.{_∙_}
+use native.Mathlib.Omega.{arith}
 use borrow.Author.Needs.{needs}
 use Rattle.page.specs.Held.{headsOf}
 use Rattle.page.proofs.Order.{ended, goes-on}
@@ -19,7 +20,7 @@ returns : tie.Need-returns
 returns c =
     let p = c .before .before in
     let a = p .before .before .args in
-    c .due-now .ensures ∙ ended (headsOf (a .h)) (a .line) _ _ (p .before .sort .ensures .0) (p .next-due .ensures) (c .before .if1 .taken)
+    c .due-now .ensures ∙ ended (headsOf (a .h)) (a .line) _ _ (p .before .sort .ensures .0) (p .next-due .ensures) (omega (arith, c .before .if1 .taken))
 
 said-requires : tie.Need-said-requires
 said-requires c κs = search needs
@@ -31,7 +32,7 @@ returns-2 : tie.Need-returns-2
 returns-2 c =
     let p = c .before .before .before in
     let a = p .before .before .args in
-    c .kept .ensures ∙ goes-on (headsOf (a .h)) (a .line) _ _ (p .before .sort .ensures .0) (p .next-due .ensures) _ (c .before .said .ensures) (c .before .before .if1 .left)
+    c .kept .ensures ∙ goes-on (headsOf (a .h)) (a .line) _ _ (p .before .sort .ensures .0) (p .next-due .ensures) _ (c .before .said .ensures) (omega (arith, c .before .before .if1 .left))
 
 pub headed-spec : {M : Type 1} → statement M
 headed-spec =

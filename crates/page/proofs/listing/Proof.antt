@@ -1,5 +1,6 @@
 -- `listing` meets its contract: the set goes after the last that is held, where there is room.
 use mathlib.Core.Path.{_≡_}
+use native.Mathlib.Omega.{arith}
 use borrow.Author.Needs.{needs}
 use borrow.Author.Tests.{not-true, not-false}
 use lib.ListN.{length}
@@ -14,7 +15,7 @@ returns-2 : tie.Need-returns-2
 returns-2 c =
     let a = c .before .before .args in
     let len : length (a .t1) ≡ 65 = search needs in
-    rw (not-false (a .own) (c .before .if1 .left)) (no-room (a .t1) (a .count) (a .n) len (c .if2 .taken))
+    rw (not-false (a .own) (c .before .if1 .left)) (no-room (a .t1) (a .count) (a .n) len (omega (arith, c .if2 .taken)))
 
 mul-sets : tie.Need-mul-sets
 mul-sets c = search needs
@@ -29,7 +30,7 @@ returns-3 : tie.Need-returns-3
 returns-3 c =
     let a = c .before .before .args in
     let len : length (a .t1) ≡ 65 = search needs in
-    rw (not-false (a .own) (c .before .if1 .left)) (next-set (a .t1) (a .count) (a .n) len (c .if2 .left))
+    rw (not-false (a .own) (c .before .if1 .left)) (next-set (a .t1) (a .count) (a .n) len (omega (arith, c .if2 .left)))
 
 pub listing-spec : {M : Type 1} → statement M
 listing-spec = tie.close (tie.spec returns returns-2 mul-sets array-write-sets add-t9 returns-3)

@@ -1,23 +1,20 @@
 -- `open_room` meets its contract: the parts lent to opening are the lists of the headings.
-use mathlib.Core.Path.{_≡_, sym, ap, _∙_}
+use mathlib.Core.Path.{_≡_, sym, ap}
 use native.Mathlib.Omega.{arith}
 use lib.ListN.{length}
 use lib.Seq.{length-take-le}
 use borrow.Author.Needs.{needs}
+use Rattle.rules.specs.Lent.{Memory, memory}
 use Rattle.rules.specs.Replies.{Answer}
 use Rattle.page.specs.Held.{headsOf}
 use Rattle.page.proofs.Started.{started}
 use Rattle.page.proofs.open_room.Statement.{statement}
 use Rattle.page.proofs.open_room.Tie as tie
-use Rattle.page.proofs.open_room.Reads as reads
-use Rattle.page.proofs.open_room.Lts as lts
-use Rattle.named.proofs.in_numbers.Reads as in-numbers-reads
-use Rattle.open.proofs.open.Reads as open-reads
-use Rattle.page.proofs.due_after.Reads as due-after-reads
-use Rattle.page.proofs.due_now.Reads as due-now-reads
-use Rattle.page.proofs.held.Reads as held-reads
 
--- a heading's list has room for 65 sets
+abbrev lent : tie.Start → Memory
+lent b = let a = b .args in memory (a .house) (a .board .now) (a .cells .now) (a .heard .now)
+
+-- either list has room for 65 sets
 quorums-long : (b : tie.Start) → length (b .args .h .quorums) ≡ 65
 quorums-long b = let g = b .good .0 in search needs
 
@@ -93,7 +90,7 @@ returns c =
     let w = o .before .before .before .before .before in
     let q = w .before in
     let b = q .before .before .before .before .before .before .before in
-    started (headsOf (b .args .h)) _ _ _
+    started (headsOf (b .args .h)) (lent b) _ _
     (q .held .ensures .1 (b .args .h .quorums) (quorums-long b)) (w .held2 .ensures .1 (b .args .h .weaks) (weaks-long b))
     _ _ (o .«open» .ensures) _ _ (ap (λ (x : Answer). x .number) (n .in-numbers .ensures)) (c .before .before .due-after .ensures)
     _ (c .before .due-now .ensures)
