@@ -1,0 +1,3 @@
+pub mod Listed
+pub mod Order
+pub mod Started
