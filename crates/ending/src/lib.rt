@@ -29,13 +29,7 @@ fn by_split(stop: Stop) -> bool
 }
 
 // All that the end of the input prints where a room was opened, at the front of a buffer; tells where it ends.
-pub fn write_ending(
-    house: House,
-    board: &[u8],
-    cells: &[u8],
-    heard: &[u8],
-    out: &mut [u8],
-) -> usize
+pub fn write_ending(house: House, board: &[u8], cells: &[u8], heard: &[u8], out: &mut [u8]) -> usize
     requires { ⌜ 8192 ≤ length (now out) ⌝ }
     ensures { λ r. ⌜ r ≡ length (closes (memory house (now (board .entry)) (now (cells .entry)) (now (heard .entry)))) ⌝ }
     ensures { λ r. ⌜ now (out .exit) ≡ patch (now (out .entry)) 0 (closes (memory house (now (board .entry)) (now (cells .entry)) (now (heard .entry)))) ⌝ }
@@ -47,14 +41,9 @@ pub fn write_ending(
     }
     let b = tell::book_rows(house, board);
     let tubes = b.tubes;
-    let split = by_split(b.stop);
-    closing::write_closing(
-        tubes,
-        b.reach,
-        split,
-        house.stations,
-        house.serials,
-        house.tubes,
-        out,
-    )
+    let stop = b.stop;
+    let split = by_split(stop);
+    let stations = house.stations;
+    let serials = house.serials;
+    closing::write_closing(tubes, b.reach, split, stations, serials, house.tubes, out)
 }
