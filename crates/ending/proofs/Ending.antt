@@ -2,12 +2,11 @@
 use mathlib.Core.Path.{_≡_, ap, sym, _∙_}
 use mathlib.Core.Bool.{Bool}
 use mathlib.Core.List.{List}
-use Prim.Native.Nat.{ℕ, suc, _-_, _≤_}
+use Prim.Native.Nat.{ℕ, _-_, _≤_}
 use native.Mathlib.Omega.{arith}
 use borrow.Author.Tests.{ne-eqb}
 use lib.Dec.{eqb}
-use lib.ListN.{length, getD}
-use Rattle.rules.specs.Tests.{pick}
+use lib.ListN.{length}
 use Rattle.rules.specs.Lent.{Memory, patch, roomOf, read}
 use Rattle.rules.specs.Steps.{ask}
 use Rattle.rules.specs.Book.{rowTube}

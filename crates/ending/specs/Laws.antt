@@ -4,7 +4,7 @@ use mathlib.Core.List.{List·Memᴰ}
 use Prim.Native.Nat.{ℕ, _+_, _≤_}
 use Rattle.rules.specs.Lent.{Memory, roomOf, read}
 use Rattle.kept.specs.Kept.{Whole}
-use Rattle.closing.specs.Printed.{Line, totals, linesOf, closingOf}
+use Rattle.closing.specs.Printed.{totals, linesOf, closingOf}
 use Rattle.closing.specs.Laws.{howMany, own}
 use Rattle.page.specs.Sheet.{closes}
 
