@@ -1,14 +1,18 @@
 -- A house record's arrays hold the scan of each tube on its intake: what a caller of `write_closing` hands over.
-use mathlib.Core.Path.{_≡_, refl, sym, ap, _∙_}
+use mathlib.Core.Path.{_≡_, refl, sym, _∙_}
+use mathlib.Core.Bool.{Bool}
 use mathlib.Core.List.{List, [], _∷_, _++_}
-use Prim.Native.Nat.{ℕ, zero, suc, _+_, _-_, _≤_, _<_}
+use Prim.Native.Nat.{ℕ, zero, suc, _-_, _≤_, _<_}
 use native.Mathlib.Decide.{ℕ-discrete}
 use native.Mathlib.Omega.{arith}
+use lib.Dec.{eqb}
 use lib.ListN.{length, getD, length-append, List·getD-append}
 use lib.Seq.{getD-at}
-use Rattle.rules.specs.Lent.{Memory, intakeOf, read}
+use Rattle.rules.specs.Lent.{Memory, intakeOf, roomOf, read}
+use Rattle.rules.specs.Book.{stopped}
+use Rattle.rules.proofs.Book.{reaches}
 use Rattle.closing.specs.Printed.{scanOf}
-use Rattle.closing.specs.Given.{Scans}
+use Rattle.closing.specs.Given.{Book, Scans, Given}
 
 module _ (a b : List ℕ) where
   pub length-scans : (n : ℕ) → length (intakeOf a b n) ≡ n
@@ -32,3 +36,16 @@ house-count m = sym (length-scans (m .house .stations) (m .house .serials) (m .h
 pub house-scans : (m : Memory) → Scans (read m) (m .house .stations) (m .house .serials)
 unfolding scanOf
 house-scans m t h k = scan-at (m .house .stations) (m .house .serials) (m .house .tubes) (t - 1) (omega (arith, house-count m))
+
+-- the room and what stands in it that a memory means, with the book's tubes as an array
+pub given : (m : Memory) (tubes : List ℕ) (n : ℕ) (split : Bool) → m .house .rows ≤ 64 → m .house .tubes ≤ 64 → Book (roomOf (m .house)) (read m) tubes n
+    → split ≡ eqb (stopped (roomOf (m .house)) (read m)) 2 → Given (roomOf (m .house)) (read m) tubes n split (m .house .stations) (m .house .serials) (m .house .tubes)
+given m tubes n split h k g e =
+    record {
+      few = omega (arith, g .reached, reaches (roomOf (m .house)) (read m));
+      most = k;
+      rows = g;
+      stop = e;
+      count = house-count m;
+      scans = house-scans m;
+    }

@@ -111,6 +111,7 @@ fn split_line(out: &mut [u8], at: usize, row: u8) -> usize
 fn totals_line(out: &mut [u8], at: usize, scanned: u8, entered: u8, void: u8, waiting: u8) -> usize
     requires { ⌜ at + 73 ≤ length (now out) ⌝ }
     ensures { λ r. ⌜ Wrote (now (out .entry)) at (lineText (totals scanned entered void waiting)) r (now (out .exit)) ⌝ }
+    ensures { λ r. ⌜ r ≤ at + 73 ⌝ }
 {
     let first = put_field(out, at, b"scanned=", scanned as u32);
     let second = put_field(out, first, b" entered=", entered as u32);
@@ -320,6 +321,7 @@ pub fn write_closing(
     requires { ⌜ 8192 ≤ length (now out) ⌝ }
     ensures { λ r. ⌜ ((ρ : Room) (s : State) → Given ρ s tubes reach split stations serials scanned
         → (r ≡ length (closingOf ρ s)) × (now (out .exit) ≡ patch (now (out .entry)) 0 (closingOf ρ s))) ⌝ }
+    ensures { λ r. ⌜ r ≤ 8192 ⌝ }
 {
     let rows = write_rows(out, tubes, reach, stations, serials);
     let waiting = write_waiting(out, rows, tubes, reach, stations, serials, scanned);

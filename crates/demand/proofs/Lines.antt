@@ -29,7 +29,8 @@ scanned-in-form m f =
     let t : T (all (goodMsg ρ k) (read m .board)) = search (and-l, and-r, f .board) depth 9 in
     all-more (goodMsg ρ k) (scanned k) (read m .board) (λ x u. and-r (limits ρ x) (scanned k x) u) t
 
-on-intake : (m : Memory) → Form m → OnIntake (roomOf (m .house)) (read m)
+-- every agreed tube of memory in form is on intake
+pub on-intake : (m : Memory) → Form m → OnIntake (roomOf (m .house)) (read m)
 on-intake m f = from-form (roomOf (m .house)) (read m) (tables-in-form m f)
     (subst (λ (k : ℕ). T (all (scanned k) (read m .board))) (sym (length-intake m)) (scanned-in-form m f))
 

@@ -45,10 +45,11 @@ returns c =
     let four = c .before .before .before .before .before .before .put-field4 in
     let end = c .before .before .end-line in
     let room = c .before .before .before .before .before .before .before .before .before .before .before .before .before .before .before .before .before .before .before .before .before .before .before .before .before .pre in
-    wrote-on (omega (arith, room)) (one .ensures .0)
+    let whole = wrote-on (omega (arith, room)) (one .ensures .0)
     (wrote-on (omega (arith, room, one .ensures .1, one .kept .0)) (two .ensures .0)
     (wrote-on (omega (arith, room, one .ensures .1, one .kept .0, two .ensures .1, two .kept .0)) (three .ensures .0)
-    (wrote-on (omega (arith, room, one .ensures .1, one .kept .0, two .ensures .1, two .kept .0)) (four .ensures .0) (end .ensures))))
+    (wrote-on (omega (arith, room, one .ensures .1, one .kept .0, two .ensures .1, two .kept .0)) (four .ensures .0) (end .ensures)))) in
+    (whole, omega (arith, one .ensures .1, two .ensures .1, three .ensures .1, four .ensures .1, end .ensures .ends))
 
 pub totals-line-spec : {M : Type 1} → statement M
 totals-line-spec =

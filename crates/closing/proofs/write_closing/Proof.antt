@@ -1,5 +1,6 @@
 -- `write_closing` meets its contract: rows, waiting tubes, a split and totals, one after another, are the closing lines.
 use mathlib.Core.Path.{_∙_}
+use Prim.Native.Nat.{_≤_}
 use native.Mathlib.Nat.{zero-add}
 use native.Mathlib.Omega.{arith}
 use borrow.Author.Needs.{needs}
@@ -49,13 +50,16 @@ returns c =
     let entered = c .before .before .before .before .before .count-entered in
     let left = c .before .before .before .before .count-waiting in
     let last = c .before .before .totals-line in
-    λ ρ s g.
-    let whole = wrote-on (omega (arith, room)) (rows .ensures .0 ρ s (g .rows) (g .scans))
-    (wrote-on (omega (arith, room, rows .ensures .1, rows .kept .0, few .few)) (waiting .ensures .0 ρ s (g .rows) (g .count) (g .scans))
-    (wrote-on (omega (arith, room, rows .ensures .1, rows .kept .0, waiting .ensures .1, waiting .kept .0, few .few, few .most)) (stop .ensures .0) (last .ensures))) in
-    let all : Wrote (a .out .now) 0 (closingOf ρ s) (last .result) (last .last .0) =
-    rw (parts ρ s (a .reach) (a .scanned) (entered .result) (left .result) (a .split) (g .rows .reached) (g .count) (g .stop) (entered .ensures .0 ρ s (g .rows)) (left .ensures ρ s (g .rows) (g .count))) at whole in
-    (all .ends ∙ zero-add (length (closingOf ρ s)), all .area)
+    let short : last .result ≤ 8192 = omega (arith, rows .ensures .1, waiting .ensures .1, stop .ensures .1, last .ensures .1, few .few, few .most) in (
+      λ ρ s g.
+          let whole = wrote-on (omega (arith, room)) (rows .ensures .0 ρ s (g .rows) (g .scans))
+          (wrote-on (omega (arith, room, rows .ensures .1, rows .kept .0, few .few)) (waiting .ensures .0 ρ s (g .rows) (g .count) (g .scans))
+          (wrote-on (omega (arith, room, rows .ensures .1, rows .kept .0, waiting .ensures .1, waiting .kept .0, few .few, few .most)) (stop .ensures .0) (last .ensures .0))) in
+          let all : Wrote (a .out .now) 0 (closingOf ρ s) (last .result) (last .last .0) =
+          rw (parts ρ s (a .reach) (a .scanned) (entered .result) (left .result) (a .split) (g .rows .reached) (g .count) (g .stop) (entered .ensures .0 ρ s (g .rows)) (left .ensures ρ s (g .rows) (g .count))) at whole in
+          (all .ends ∙ zero-add (length (closingOf ρ s)), all .area),
+      short,
+    )
 
 pub write-closing-spec : {M : Type 1} → statement M
 write-closing-spec =
