@@ -29,13 +29,13 @@ pub fn take(
             ballot,
             node,
             tube,
-        } => { crate::votes::send_2av(house, board, cells, heard, row, node, ballot, tube) }
+        } => crate::votes::send_2av(house, board, cells, heard, row, node, ballot, tube),
         Step::Send2b {
             row,
             ballot,
             node,
             tube,
-        } => { crate::votes::send_2b(house, board, cells, heard, row, node, ballot, tube) }
+        } => crate::votes::send_2b(house, board, cells, heard, row, node, ballot, tube),
         Step::Hear { node, message } => crate::hear(house, board, cells, heard, node, message),
         Step::Foreign(post) => {
             crate::posts::post_foreign(house, board, cells, heard, post, pairs)
