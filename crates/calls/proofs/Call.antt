@@ -93,3 +93,7 @@ refused m c k e z f = record {
 pub done : (m : Memory) (c : Call) {a : Answer} {n : Memory} → reply m c ≡ 0 → a ≡ tell (roomOf (m .house)) (read m) c → n ≡ after m c → Did m c a n
 unfolding answer
 done m c e f g = record { answer = f ∙ rw (eq-eqb (reply m c) 0 e); memory = g }
+
+-- the same call by another name
+pub as-said : (m : Memory) {c d : Call} {a : Answer} {n : Memory} → c ≡ d → Did m d a n → Did m c a n
+as-said m e f = record { answer = f .answer ∙ ap (answer m) (sym e); memory = f .memory ∙ ap (after m) (sym e) }

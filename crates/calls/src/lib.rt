@@ -8,6 +8,7 @@ ghost use Rattle.rules.specs.Replies.{answerOf, bare, Did};
 
 pub mod asks; // asks.rt: asking a row, and the book
 pub mod posts; // posts.rt: the foreign post
+pub mod steps; // steps.rt: a step of any kind
 pub mod votes; // votes.rt: 2av and 2b
 
 use rules::Ballot;
