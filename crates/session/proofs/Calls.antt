@@ -7,15 +7,19 @@ use native.Mathlib.Omega.{arith}
 use lib.Dec.{eqb}
 use borrow.Author.Tests.{eqb-true, eqb-false}
 use Rattle.rules.specs.Tests.{pick}
-use Rattle.rules.specs.Lent.{Memory}
+use Rattle.rules.specs.Lent.{Memory, roomOf, read}
 use Rattle.rules.specs.Steps.{Call}
 use Rattle.rules.specs.Replies.{after, runs, openReply, opening}
+use Rattle.kept.specs.Kept.{Whole}
+use Rattle.kept.proofs.Alike.{opened-whole}
 use Rattle.step.specs.Given.{callOf}
 use Rattle.lines.specs.declared.Line.{Line}
 use Rattle.lines.specs.declared.Line.the-variants.{Heading, Step, Bad}
 use Rattle.lines.specs.declared.Parsed.{Parsed}
 use Rattle.lines.specs.Grammar.{parsed}
-use Rattle.page.specs.Sheet.{Heads, Sheet, Turn, sheetOf, turn, unread, headed, roomFor, dueNow, malformed, opens, stepped, begins, heading, takes}
+use Rattle.page.specs.Sheet.{Heads, Sheet, Turn, sheetOf, turn, unread, headed, roomFor, dueNow, malformed, opens, stepped, begins, heading, takes, closes}
+use Rattle.closing.specs.Printed.{closingOf}
+use Rattle.ending.proofs.Laws.{closed}
 use Rattle.session.specs.Laws.{sheetAfter, Since}
 
 -- one call more
@@ -100,9 +104,9 @@ ran-takes m s p g =
     by (λ (t : Turn). Ran m (t .sheet)) (eqb (h .due) 8) (turn h (s .memory) []) (pick (eqb (h .due) 7) (stepped h (s .memory) (p .line) (p .pairs)) (heading h (s .memory) p))
     (λ e. g)
     (λ n. by (λ (t : Turn). Ran m (t .sheet)) (eqb (h .due) 7) (stepped h (s .memory) (p .line) (p .pairs)) (heading h (s .memory) p)
-        (λ e. let d = eqb-true (h .due) 7 e in ran-step m h (s .memory) (p .line) (p .pairs) d (g .since d))
-        (λ k. let same = g .before (eqb-false (h .due) 7 k) (eqb-false (h .due) 8 n) in
-            subst (λ (x : Memory). Ran m (heading h x p .sheet)) (sym same) (ran-heading m h p)))
+    (λ e. let d = eqb-true (h .due) 7 e in ran-step m h (s .memory) (p .line) (p .pairs) d (g .since d))
+    (λ k. let same = g .before (eqb-false (h .due) 7 k) (eqb-false (h .due) 8 n) in
+    subst (λ (x : Memory). Ran m (heading h x p .sheet)) (sym same) (ran-heading m h p)))
 
 ran-lines : (m : Memory) (s : Sheet) (ls : List (List ℕ)) → Ran m s → Ran m (sheetAfter s ls)
 unfolding sheetAfter
@@ -111,3 +115,6 @@ ran-lines m s (l ∷ ls) g = ran-lines m (takes s (parsed l) .sheet) ls (ran-tak
 
 pub steps-are-calls : (m : Memory) (ls : List (List ℕ)) → let s = sheetAfter (sheetOf unread m) ls in s .heads .due ≡ 7 → Since m (s .memory)
 steps-are-calls m ls = ran-lines m (sheetOf unread m) ls (record { before = λ n k. refl; since = λ e. absurd (omega (arith, e)) }) .since
+
+pub closes-in-form : (m m′ : Memory) → Since m m′ → closes m′ ≡ closingOf (roomOf (m′ .house)) (read m′)
+closes-in-form m m′ g = closed m′ (subst (λ (x : Memory). Whole x) (sym (g .memory)) (opened-whole (g .room) m (g .opened) (g .calls)))

@@ -1,3 +1,4 @@
 pub mod Feed
+pub mod Held
 pub mod Laws
 pub mod Cases
