@@ -57,3 +57,30 @@ pub accepted-left : (m : Memory) (p : Post) (k : Message) {h′ : House} {s : Li
 unfolding counted settled tell
 accepted-left m p k {h′} e f c n r =
     (call.done m (foreign p) r refl (marked-after m p k e f (ap (λ (g : House). marked g (k .node)) (c .0)) r), record { node = n; count = c .1 })
+
+-- ---- what is due, by its two tests
+
+on-true : {X : Type 0} (b : Bool) (x y : X) → T b → pick b x y ≡ x
+on-true true x y t = refl
+on-true false x y t = absurd t
+
+on-false : {X : Type 0} (b : Bool) (x y : X) → T (not b) → pick b x y ≡ y
+on-false true x y t = absurd t
+on-false false x y t = refl
+
+untwist : (b : Bool) → T (not (not b)) → T b
+untwist true t = tt
+untwist false t = absurd t
+
+module _ (h : House) (d : Due) where
+  pub nothing-due : T (not (d .accepted)) → h ≡ settled h d
+  unfolding settled
+  nothing-due refused = sym (on-false (d .accepted) _ h refused)
+
+  pub mark-due : T (not (not (d .accepted))) → T (not (d .fresh)) → marked h (d .node) ≡ settled h d
+  unfolding counted settled
+  mark-due taken old = ap (λ (g : House). marked g (d .node)) (sym (on-false (d .fresh) _ h old)) ∙ sym (on-true (d .accepted) _ h (untwist (d .accepted) taken))
+
+  pub both-due : T (not (not (d .accepted))) → T (d .fresh) → marked (raised h (h .count + 1)) (d .node) ≡ settled h d
+  unfolding counted settled
+  both-due taken fresh = ap (λ (g : House). marked g (d .node)) (sym (on-true (d .fresh) _ h fresh)) ∙ sym (on-true (d .accepted) _ h (untwist (d .accepted) taken))
