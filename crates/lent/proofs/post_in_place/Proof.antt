@@ -9,14 +9,14 @@ use lib.ListN.{length}
 use mir.Syntax.{named, w8, w32, tyUnit}
 use mir.Val.{Val, vunit, vptr, hasTy, WT}
 use base.Logic.{SProp, ent, sep, emp, guard, id⊢, via, fst∗}
-use base.Fml.{Fml, GName, Lft, Share, ftrue, fat, flft, fres}
+use base.Fml.{Fml, GName, Lft, Share, ftrue, fsep, fat, flft}
 use prog.Memory.{Memory}
 use prog.Routine.{Routine}
 use prog.Wp.{Heap, Calls, Loops, WpFn, Tables}
 use ghost.Atoms.{Atoms, sem}
 use contract.Monad.{Fun, fact}
 use contract.Running.{givenOf, tables, tablesOf}
-use types.Kit.{Given, Item, mean, ‵, raw, given, some, later, _⊛_, _$_, _∵_, !, qed, by, move, keep, drop, use1, use2, split, pick, learn, rewrite, await, updating, now as at-once, check, join, fsplit, fsplit3, fjoin, fjoin3, feqL, feqI, suffices, frame, done}
+use types.Kit.{Given, Item, mean, ‵, raw, given, some, later, _⊛_, _$_, _∵_, !, qed, by, move, drop, use1, use2, split, pick, learn, rewrite, await, join, fsplit, fsplit3, fjoin, fjoin3, feqL, feqI, suffices, frame, done}
 use types.Part.{agg, whole, sub, look-in}
 use types.Run.{look, init, forget, stop, hop, fld, from, load, addr, of-opd, and-then, no-more, land, assigns, returns, enter, alloc1, alloc0, params1, pass1, pass0, free1, free0}
 use sound.WpLaws.{FmC, fmOf, WpFn-mono}
@@ -24,7 +24,7 @@ use denote.RattleType.{owns}
 use denote.Laws.{Is, shows}
 use denote.Memory.{cellAt}
 use denote.Array.{Array, array-vals, array-tells, array-lawful}
-use denote.Plain.{Nothing, uint-vals, uint-tells, uint-lawful}
+use denote.Plain.{uint-vals, uint-tells, uint-lawful}
 use denote.Builtin.{u8, u32}
 use denote.Enum.Laws as EL
 use denote.Ref.{RefT, MutRef, ptr-vals, mut-tells}
@@ -56,6 +56,7 @@ use Rattle.step.proofs.Post.Laws as Q′
 use Rattle.lent.specs.declared.Due.{Due}
 use Rattle.lent.specs.declared.Placed.{Placed}
 use Rattle.lent.specs.Due.{settled, Ready}
+use Rattle.lent.proofs.Record.{refTo, Lent, Last, ensured-last, leaves}
 use Rattle.lent.proofs.Due as D
 use Rattle.lent.proofs.Due.Laws as D′
 use Rattle.lent.proofs.Placed as P
@@ -95,16 +96,14 @@ pairsVal ps = only (array-vals (uint-vals w32) ps)
 abbrev dueVal : Due → Val
 dueVal d = LL.val D.the-type D′.the-laws d
 
--- the reply and what is due, of what `place` answers
-abbrev fields-of : (r : Placed) (w : Val) → Is P.the-row r (w ∷ []) → Is R.the-row (r .reply) (EL.val R.the-type R′.the-laws (r .reply) ∷ []) × Is D.the-row (r .due) (dueVal (r .due) ∷ [])
-fields-of r w is = let f = LL.owed P.the-type P′.the-laws r _ is in (f .0, f .1 .0)
-
+-- the reply and what is due, within what `place` answers
 reply-is : (r : Placed) (w : Val) → Is P.the-row r (w ∷ []) → Is R.the-row (r .reply) (EL.val R.the-type R′.the-laws (r .reply) ∷ [])
-reply-is r w is = fields-of r w is .0
+reply-is r w is = LL.owed P.the-type P′.the-laws r _ is .0
 
 due-is : (r : Placed) (w : Val) → Is P.the-row r (w ∷ []) → Is D.the-row (r .due) (dueVal (r .due) ∷ [])
-due-is r w is = fields-of r w is .1
+due-is r w is = LL.owed P.the-type P′.the-laws r _ is .1 .0
 
+-- the parameters but the record: board, cells, heard, the post and its pairs
 abbrev Arg : Type 0
 Arg = RefT (List ℕ) × (RefT (List ℕ) × (RefT (List ℕ) × (Post × (List ℕ × Unit {0}))))
 
@@ -129,17 +128,8 @@ module _ {M : Type 1} (𝓤 : URA M) (H : Heap 𝓤) (A : Atoms 𝓤) (mem : Mem
   Settle = tripleOf 𝓤 H A settle.signature (settle.spec 𝓤 H A mem run)
 
 module _ {M : Type 1} (𝓤 : URA M) (H : Heap 𝓤) (A : Atoms 𝓤) (W : Given 𝓤 H A) (at-mem : Memory → SProp 𝓤) (run : Routine → Fun 𝓤) (κ₀ κ₁ κ₂ κ₃ : Lft) (q₀ q₁ q₂ q₃ : Share) (b o : ℕ) (γ : GName) (h : House) (s : Arg) where
-  abbrev x : RefT House
-  x = record { ptr = (b, o); name = γ; now = h }
-
-  abbrev Lent : Fml
-  Lent = MutRef (named 0) κ₀ T.the-row .own x (vptr b o ∷ [])
-
-  abbrev Last : House → Fml
-  Last g = fres γ (T.the-row .coded .code g)
-
   abbrev bound : walkOf 𝓤 H A post-in-place.ended stayed (post-in-place.clauses 𝓤 H A at-mem run) .Ghost
-  bound = (((κ₀, (κ₁, (κ₂, (κ₃, tt)))), (q₀, (q₁, (q₂, (q₃, tt)))), tt, (x, s), (vptr b o ∷ [], valsOf s)), tt)
+  bound = (((κ₀, (κ₁, (κ₂, (κ₃, tt)))), (q₀, (q₁, (q₂, (q₃, tt)))), tt, (refTo b o γ h, s), (vptr b o ∷ [], valsOf s)), tt)
 
   abbrev End : Val → SProp 𝓤
   End = walkOf 𝓤 H A post-in-place.ended stayed (post-in-place.clauses 𝓤 H A at-mem run) .post bound
@@ -162,26 +152,20 @@ module _ {M : Type 1} (𝓤 : URA M) (H : Heap 𝓤) (A : Atoms 𝓤) (W : Given
   -- `settle` on the record itself
   module _ (d : Due) (d-is : Is D.the-row d (dueVal d ∷ [])) where
     abbrev to-settle : Settle 𝓤 H A at-mem run .Ghost
-    to-settle = (((κ₀, tt), (q₀, tt), tt, (x, (d, tt)), (vptr b o ∷ [], (dueVal d ∷ [], tt))), tt)
+    to-settle = (((κ₀, tt), (q₀, tt), tt, (refTo b o γ h, (d, tt)), (vptr b o ∷ [], (dueVal d ∷ [], tt))), tt)
 
-    goes-settle : Ready h d → ent 𝓤 (sep 𝓤 (A .lft κ₀ q₀) (sem 𝓤 H A Lent)) (Settle 𝓤 H A at-mem run .pre to-settle)
+    goes-settle : Ready h d → ent 𝓤 (sep 𝓤 (A .lft κ₀ q₀) (sem 𝓤 H A (Lent b o κ₀ γ h))) (Settle 𝓤 H A at-mem run .pre to-settle)
     goes-settle ready =
-        qed W (‵ (flft κ₀ q₀) ∷ ‵ Lent ∷ []) ∵ says ! ready $ nothing ! $ move ! (1 ∷ 0 ∷ []) $ join ! $ frame ! $
+        qed W (‵ (flft κ₀ q₀) ∷ ‵ (Lent b o κ₀ γ h) ∷ []) ∵ says ! ready $ nothing ! $ move ! (1 ∷ 0 ∷ []) $ join ! $ frame ! $
         nothing ! $ owned ! D.the-row (Is D.the-row) ((LL.makes D.the-type D′.the-plain) 𝓤 H A) d _ d-is $ fjoin ! $ move ! (1 ∷ 0 ∷ []) $ fjoin ! $ done !
 
-    gives-settle : (v : Val) → ent 𝓤 (Settle 𝓤 H A at-mem run .post to-settle v) (H .⇛ (guard 𝓤 (v ≡ vunit) (sep 𝓤 (A .lft κ₀ q₀) (sem 𝓤 H A (Last (settled h d))))))
-    gives-settle v =
-        qed W (raw (Settle 𝓤 H A at-mem run .post to-settle v) ∷ []) ∵ updating ! $
-        use1 W (later (some (λ (r : Unit {0}). ((‵ (flft κ₀ q₀) ⊛ ‵ ftrue) ⊛ ‵ (Nothing .own r (v ∷ []))) ⊛ raw (ensured 𝓤 H A settle.ended (settle.clauses 𝓤 H A at-mem run) (κ₀, tt) (x, (d, tt)) tt r)))) (id⊢ 𝓤 _) $ await ! tt $ pick ! (λ r. split ! $
-        move ! (1 ∷ []) $ use1 W (some (λ (zs : House × (Unit {0} × Unit {0})). ‵ (lasts settle.ended (κ₀, tt) (x, (d, tt)) zs) ⊛ raw (fact 𝓤 (zs .0 ≡ settled h d)))) (id⊢ 𝓤 _) $ pick ! (λ zs. split ! $
-        move ! (1 ∷ []) $ heard ! (zs .0 ≡ settled h d) (λ e. fsplit ! $ rewrite ! 0 (λ (z : House). ‵ (Last z)) e refl $
-        -- [the last value; …; the token and the result]
-        move ! (2 ∷ []) $ split ! $ move ! (1 ∷ []) $ feqL ! (λ e′. split ! $ keep ! (0 ∷ 2 ∷ []) $ at-once ! $ check ! (ap only e′) $ done !))))
+    gives-settle : (v : Val) → ent 𝓤 (Settle 𝓤 H A at-mem run .post to-settle v) (H .⇛ (guard 𝓤 (v ≡ vunit) (sep 𝓤 (A .lft κ₀ q₀) (sem 𝓤 H A (Last γ (settled h d))))))
+    gives-settle = leaves 𝓤 H A W γ (settled h d) κ₀ q₀ (ensured 𝓤 H A settle.ended (settle.clauses 𝓤 H A at-mem run) (κ₀, tt) (refTo b o γ h, (d, tt)) tt) (λ r. ensured-last 𝓤 H A W γ (settled h d) (House × (Unit {0} × Unit {0})) (λ z. z .0) (λ z. fsep ftrue ftrue))
 
   exits : (r : Placed) (zs : List ℕ) (w : Val) → Is R.the-row (r .reply) (w ∷ []) → Said h s r zs → length zs ≡ length (s .0 .now)
-      → ent 𝓤 (sep 𝓤 (A .lft κ₀ q₀) (sep 𝓤 (sem 𝓤 H A (Last (settled h (r .due)))) (sep 𝓤 (mean 𝓤 H A toks) (sem 𝓤 H A (finally u8 (s .0 .name) zs))))) (End w)
+      → ent 𝓤 (sep 𝓤 (A .lft κ₀ q₀) (sep 𝓤 (sem 𝓤 H A (Last γ (settled h (r .due)))) (sep 𝓤 (mean 𝓤 H A toks) (sem 𝓤 H A (finally u8 (s .0 .name) zs))))) (End w)
   exits r zs w is said l =
-      qed W (‵ (flft κ₀ q₀) ∷ ‵ (Last (settled h (r .due))) ∷ toks ∷ ‵ (finally u8 (s .0 .name) zs) ∷ []) ∵
+      qed W (‵ (flft κ₀ q₀) ∷ ‵ (Last γ (settled h (r .due))) ∷ toks ∷ ‵ (finally u8 (s .0 .name) zs) ∷ []) ∵
       suffices ! _ (ends-at 𝓤 H A post-in-place.ended stayed (post-in-place.clauses 𝓤 H A at-mem run) W bound w (r .reply) (settled h (r .due), (zs, (tt, (tt, (tt, (tt, tt)))))) (tt, (l, (tt, (tt, (tt, (tt, tt))))))) $ says ! (said .0) $
       move ! (0 ∷ 2 ∷ []) $ join ! $ frame ! $ nothing ! $ nothing ! $ fjoin ! $ nothing ! $ fjoin ! $ nothing ! $ fjoin ! $ nothing ! $ fjoin ! $ move ! (2 ∷ 0 ∷ []) $ fjoin ! $ move ! (1 ∷ 0 ∷ []) $ fjoin ! $
       owned ! R.the-row (Is R.the-row) ((EL.makes R.the-type R′.the-plain) 𝓤 H A) (r .reply) _ is $ move ! (1 ∷ 0 ∷ []) $ done !
@@ -189,10 +173,10 @@ module _ {M : Type 1} (𝓤 : URA M) (H : Heap 𝓤) (A : Atoms 𝓤) (W : Given
   module _ (C : Calls 𝓤 H) (Λ : Loops 𝓤 H) (fm : FmC 𝓤 H (W .laws) C) (known-place : Triple 𝓤 (C #lent·place) (Place 𝓤 H A at-mem run)) (known-settle : Triple 𝓤 (C #lent·settle) (Settle 𝓤 H A at-mem run))
       (board-is : Is (MutSlice (named 1) κ₁ u8) (s .0) (areaVal (s .0) ∷ [])) (cells-is : Is (ShrSlice (named 2) κ₂ u8) (s .1 .0) (areaVal (s .1 .0) ∷ [])) (heard-is : Is (ShrSlice (named 3) κ₃ u8) (s .1 .1 .0) (areaVal (s .1 .1 .0) ∷ []))
       (post-is : Is Q.the-row (s .1 .1 .1 .0) (postVal (s .1 .1 .1 .0) ∷ [])) (pairs-is : Is (Array u32 32) (s .1 .1 .1 .1 .0) (pairsVal (s .1 .1 .1 .1 .0) ∷ [])) where
-    walk : ent 𝓤 (onEntry 𝓤 H A post-in-place.signature (κ₀, (κ₁, (κ₂, (κ₃, tt)))) (q₀, (q₁, (q₂, (q₃, tt)))) (x, s) (vptr b o ∷ [], valsOf s))
+    walk : ent 𝓤 (onEntry 𝓤 H A post-in-place.signature (κ₀, (κ₁, (κ₂, (κ₃, tt)))) (q₀, (q₁, (q₂, (q₃, tt)))) (refTo b o γ h, s) (vptr b o ∷ [], valsOf s))
         (WpFn 𝓤 H C Λ code.function (vptr b o ∷ areaVal (s .0) ∷ areaVal (s .1 .0) ∷ areaVal (s .1 .1 .0) ∷ postVal (s .1 .1 .1 .0) ∷ pairsVal (s .1 .1 .1 .1 .0) ∷ []) End)
     walk =
-        qed W ((‵ (flft κ₀ q₀) ⊛ toks) ∷ ‵ (owns (MutRef (named 0) κ₀ T.the-row ∷ MutSlice (named 1) κ₁ u8 ∷ ShrSlice (named 2) κ₂ u8 ∷ ShrSlice (named 3) κ₃ u8 ∷ Q.the-row ∷ Array u32 32 ∷ []) (x, s) (vptr b o ∷ [], valsOf s)) ∷ []) ∵
+        qed W ((‵ (flft κ₀ q₀) ⊛ toks) ∷ ‵ (owns (MutRef (named 0) κ₀ T.the-row ∷ MutSlice (named 1) κ₁ u8 ∷ ShrSlice (named 2) κ₂ u8 ∷ ShrSlice (named 3) κ₃ u8 ∷ Q.the-row ∷ Array u32 32 ∷ []) (refTo b o γ h, s) (vptr b o ∷ [], valsOf s)) ∷ []) ∵
         enter ! C Λ code.function (vptr b o ∷ areaVal (s .0) ∷ areaVal (s .1 .0) ∷ areaVal (s .1 .1 .0) ∷ postVal (s .1 .1 .1 .0) ∷ pairsVal (s .1 .1 .1 .1 .0) ∷ []) _ $
         alloc1 ! (λ l₀. alloc1 ! (λ l₁. alloc1 ! (λ l₂. alloc1 ! (λ l₃. alloc1 ! (λ l₄. alloc1 ! (λ l₅. alloc1 ! (λ l₆. alloc1 ! (λ l₇. alloc1 ! (λ l₈. alloc1 ! (λ l₉. alloc1 ! (λ l₁₀. alloc1 ! (λ l₁₁. alloc1 ! (λ l₁₂. alloc0 ! $ params1 ! $
         pass1 ! (init ! 22 refl (tt, tt)) $ pass1 ! (init ! 20 refl (mut-slice-lawful 𝓤 H A W (named 1) κ₁ u8 .typed (s .0) _ board-is .0)) $
@@ -223,7 +207,7 @@ module _ {M : Type 1} (𝓤 : URA M) (H : Heap 𝓤) (A : Atoms 𝓤) (W : Given
         assigns ! (addr ! (from ! (hop ! (look ! 26 refl) (stop !)))) (from ! (stop !)) (init ! 4 refl (tt, tt)) $
         move ! (3 ∷ 2 ∷ []) $ use2 W (raw (Settle 𝓤 H A at-mem run .pre (to-settle (r .due) (due-is r w is)))) (goes-settle (r .due) (due-is r w is) (said .1)) $
         calls-at ! fm (Settle 𝓤 H A at-mem run) known-settle (to-settle (r .due) (due-is r w is)) (and-then ! (load ! (from ! (stop !)) (look ! 3 refl)) (and-then ! (load ! (from ! (fld ! refl (stop !))) (look-in ! 11 (sub ! 1 refl (whole !)))) (no-more !))) (λ v.
-        use1 W (later (given (v ≡ vunit) (‵ (flft κ₀ q₀) ⊛ ‵ (Last (settled h (r .due)))))) (gives-settle (r .due) (due-is r w is) v) $ await ! tt $ learn ! (λ e. split ! $
+        use1 W (later (given (v ≡ vunit) (‵ (flft κ₀ q₀) ⊛ ‵ (Last γ (settled h (r .due)))))) (gives-settle (r .due) (due-is r w is) v) $ await ! tt $ learn ! (λ e. split ! $
         -- [its token; its last value; the areas' tokens; the board's last bytes; _12; …; _11; …; _10; …; _9; …; _8; …]
         land ! (from ! (stop !)) (init ! 6 refl (subst (λ (y : Val). Holds (hasTy tyUnit y) × WT y) (sym e) (tt, tt))) $
         assigns ! (of-opd ! (load ! (from ! (fld ! refl (stop !))) (look-in ! 12 (sub ! 0 refl (whole !))))) (from ! (stop !)) (init ! 28 refl (EL.lawful R.the-type R′.the-laws 𝓤 H A W tt .typed (r .reply) _ (reply-is r w is) .0)) $
