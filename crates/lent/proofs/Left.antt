@@ -9,7 +9,7 @@ use lib.Dec.{T, eqb}
 use Rattle.rules.specs.Tests.{pick}
 use Rattle.rules.specs.Lent.{Memory, memory, stored, meaning, boardOf, raised, marked}
 use Rattle.rules.specs.Steps.{Post, Call, foreign, posted, has, post}
-use Rattle.rules.specs.Replies.{reply, after, Answer, bare, tell, Did}
+use Rattle.rules.specs.Replies.{reply, Answer, bare, tell, Did}
 use Rattle.rules.specs.declared.House.{House}
 use Rattle.rules.specs.declared.Message.{Message}
 use Rattle.board.specs.Asked.{Postable, Posted}

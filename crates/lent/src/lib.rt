@@ -11,16 +11,16 @@ use rules::Reply;
 use step::Post;
 
 // What is left to do at the house record.
-pub struct Due {
-    pub accepted: bool,
-    pub fresh: bool,
-    pub node: u8,
+struct Due {
+    accepted: bool,
+    fresh: bool,
+    node: u8,
 }
 
 // What a post is replied, and what is left to do.
-pub struct Placed {
-    pub reply: Reply,
-    pub due: Due,
+struct Placed {
+    reply: Reply,
+    due: Due,
 }
 
 // A refusal leaves nothing to do.
@@ -42,7 +42,7 @@ fn refused(k: u8) -> Placed
 }
 
 // The post is judged on a copy of the record; an accepted one's message stands on the board afterwards.
-pub fn place(
+fn place(
     copy: House,
     board: &mut [u8],
     cells: &[u8],
