@@ -48,7 +48,7 @@ module _ (h : House) (s : List ℕ) (k : Message) {h′ : House} {s′ : List �
   counted-as = by-new _ refl
 
 abbrev due : House → House → Message → Due
-due h h′ k = record { accepted = true; fresh = moved h h′; node = k .node }
+due h h′ k = record { accepted = true; fresh = moved h h′; node = record { 0 = k .node } }
 
 -- an accepted post leaves the count and the mark
 pub accepted-left : (m : Memory) (p : Post) (k : Message) {h′ : House} {s : List ℕ} → k ≡ stored (posted p) → memory h′ s (m .cells) (m .heard) ≡ post m (posted p)
@@ -77,10 +77,10 @@ module _ (h : House) (d : Due) where
   unfolding settled
   nothing-due refused = sym (on-false (d .accepted) _ h refused)
 
-  pub mark-due : T (not (not (d .accepted))) → T (not (d .fresh)) → marked h (d .node) ≡ settled h d
+  pub mark-due : T (not (not (d .accepted))) → T (not (d .fresh)) → marked h (d .node .0) ≡ settled h d
   unfolding counted settled
-  mark-due taken old = ap (λ (g : House). marked g (d .node)) (sym (on-false (d .fresh) _ h old)) ∙ sym (on-true (d .accepted) _ h (untwist (d .accepted) taken))
+  mark-due taken old = ap (λ (g : House). marked g (d .node .0)) (sym (on-false (d .fresh) _ h old)) ∙ sym (on-true (d .accepted) _ h (untwist (d .accepted) taken))
 
-  pub both-due : T (not (not (d .accepted))) → T (d .fresh) → marked (raised h (h .count + 1)) (d .node) ≡ settled h d
+  pub both-due : T (not (not (d .accepted))) → T (d .fresh) → marked (raised h (h .count + 1)) (d .node .0) ≡ settled h d
   unfolding counted settled
-  both-due taken fresh = ap (λ (g : House). marked g (d .node)) (sym (on-true (d .fresh) _ h fresh)) ∙ sym (on-true (d .accepted) _ h (untwist (d .accepted) taken))
+  both-due taken fresh = ap (λ (g : House). marked g (d .node .0)) (sym (on-true (d .fresh) _ h fresh)) ∙ sym (on-true (d .accepted) _ h (untwist (d .accepted) taken))

@@ -7,6 +7,7 @@ ghost use Rattle.rules.specs.Replies.{answerOf, bare, Did};
 ghost use Rattle.step.specs.Given.{postOf};
 ghost use Rattle.lent.specs.Due.{nothing, settled, Ready};
 use rules::House;
+use rules::Node;
 use rules::Reply;
 use step::Post;
 
@@ -14,7 +15,7 @@ use step::Post;
 struct Due {
     accepted: bool,
     fresh: bool,
-    node: u8,
+    node: Node,
 }
 
 // What a post is replied, and what is left to do.
@@ -33,7 +34,7 @@ fn refused(k: u8) -> Placed
     let none = Due {
         accepted: false,
         fresh: false,
-        node: 0,
+        node: Node(0),
     };
     Placed {
         reply: reply,
@@ -65,7 +66,7 @@ fn place(
     let due = Due {
         accepted: true,
         fresh: out.count != copy.count,
-        node: m.node,
+        node: Node(m.node),
     };
     Placed {
         reply: Reply::Done,
