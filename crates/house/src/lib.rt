@@ -5,19 +5,21 @@ ghost use lib.Bits.{bitOr};
 ghost use Prim.Native.Nat.{_^_};
 ghost use Rattle.rules.specs.Lent.{raised, marked};
 use rules::House;
+use rules::Node;
 
 // The set with one node more.
-pub fn with_node(marks: u8, node: u8) -> u8
-    requires { ⌜ node < 8 ⌝ }
-    ensures { λ r. ⌜ r ≡ bitOr marks (2 ^ node) ⌝ }
+pub fn with_node(marks: u8, node: Node) -> u8
+    requires { ⌜ node .0 < 8 ⌝ }
+    ensures { λ r. ⌜ r ≡ bitOr marks (2 ^ (node .0)) ⌝ }
 {
-    marks | (1u8 << node)
+    let n = node.0;
+    marks | (1u8 << n)
 }
 
 // One node's mark is set, where the record stands.
-pub fn mark(h: &mut House, node: u8)
-    requires { ⌜ node < 8 ⌝ }
-    ensures { λ _. ⌜ now (h .exit) ≡ marked (now (h .entry)) node ⌝ }
+pub fn mark(h: &mut House, node: Node)
+    requires { ⌜ node .0 < 8 ⌝ }
+    ensures { λ _. ⌜ now (h .exit) ≡ marked (now (h .entry)) (node .0) ⌝ }
 {
     let m = h.marks;
     let n = with_node(m, node);
