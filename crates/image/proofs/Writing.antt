@@ -7,7 +7,8 @@ use native.Mathlib.Omega.{arith}
 use lib.ListN.{length, getD, take, drop, set, length-append, take-append-drop}
 use lib.Seq.{paste, set-split, drop-drop, take-all, take-at, drop-at, length-take-le, take-suc-set, getD-drop}
 use Rattle.rules.specs.Lent.{patch}
-use Rattle.image.specs.Image.{four, scans, fourAt}
+use Rattle.rules.specs.declared.House.{House}
+use Rattle.image.specs.Image.{four, scans, image, fourAt}
 
 -- nothing written
 pub none-yet : (s : List ℕ) (at : ℕ) → s ≡ patch s at []
@@ -52,3 +53,7 @@ four-drop s n k =
     let c : n + (k + 2) ≡ n + k + 2 = omega arith in
     let d : n + (k + 3) ≡ n + k + 3 = omega arith in
     rw (getD-drop n s k 0, getD-drop n s (k + 1) 0, getD-drop n s (k + 2) 0, getD-drop n s (k + 3) 0, b, c, d)
+
+pub length-image : (h : House) → length (h .quorums) ≡ 64 → length (h .weaks) ≡ 64 → length (image h) ≡ 459
+unfolding image
+length-image h q w = simp (length-append, length-scans) (omega arith)
