@@ -1,4 +1,5 @@
 // Reads frames from standard input until it ends, or until one that it cannot hold, and writes a reply for each.
+ghost use mathlib.Core.Path.{_≡_};
 use frame::Asked;
 use frame::Found;
 use frame::Request;
@@ -56,10 +57,8 @@ fn write_reply(
     io::write_all(STDOUT_FILENO, waiting)
 }
 
-// A request whose lists and areas are as long as the parts that it is handed.
-fn answer(
-    request: Request,
-    call: Asked,
+// Fills the lists and the areas from the input; false where it ends before.
+fn read_rest(
     quorums: &mut [u32],
     weaks: &mut [u32],
     board: &mut [u8],
@@ -86,9 +85,21 @@ fn answer(
     if !read_area(book) {
         return false;
     }
-    if !read_area(waiting) {
-        return false;
-    }
+    read_area(waiting)
+}
+
+// A frame that was read: its call is made, and the reply written.
+fn reply(
+    request: Request,
+    call: Asked,
+    quorums: &[u32],
+    weaks: &[u32],
+    board: &mut [u8],
+    cells: &mut [u8],
+    heard: &mut [u8],
+    book: &mut [u8],
+    waiting: &mut [u8],
+) -> bool {
     let house = request.house;
     let pairs = request.pairs;
     let served = frame::serve(
@@ -106,8 +117,10 @@ fn answer(
     write_reply(served, board, cells, heard, book, waiting)
 }
 
-// One frame; false where the input ends, or the frame cannot be held.
-fn one_frame(
+// The rest of a frame, whose lists and areas are as long as the parts handed over.
+fn answer(
+    request: Request,
+    call: Asked,
     quorums: &mut [u32],
     weaks: &mut [u32],
     board: &mut [u8],
@@ -116,22 +129,37 @@ fn one_frame(
     book: &mut [u8],
     waiting: &mut [u8],
 ) -> bool {
-    let mut front = [0u8; 552];
-    if io::read_full(STDIN_FILENO, &mut front) != 552 {
+    if !read_rest(quorums, weaks, board, cells, heard, book, waiting) {
         return false;
     }
-    let request = frame::reading::request(&front);
-    let arguments = request.arguments;
-    let Found::Call(call) = frame::which::found(request.call, arguments) else {
-        return false;
-    };
-    let q = request.quorums as usize;
-    let w = request.weaks as usize;
-    let b = request.board as usize;
-    let c = request.cells as usize;
-    let h = request.heard as usize;
-    let k = request.book as usize;
-    let t = request.waiting as usize;
+    reply(request, call, quorums, weaks, board, cells, heard, book, waiting)
+}
+
+fn size(n: u32) -> usize
+    ensures { λ r. ⌜ r ≡ n ⌝ }
+{
+    n as usize
+}
+
+// A frame whose front was read; false where it cannot be held.
+fn hold(
+    request: Request,
+    call: Asked,
+    quorums: &mut [u32],
+    weaks: &mut [u32],
+    board: &mut [u8],
+    cells: &mut [u8],
+    heard: &mut [u8],
+    book: &mut [u8],
+    waiting: &mut [u8],
+) -> bool {
+    let q = size(request.quorums);
+    let w = size(request.weaks);
+    let b = size(request.board);
+    let c = size(request.cells);
+    let h = size(request.heard);
+    let k = size(request.book);
+    let t = size(request.waiting);
     if q > quorums.len() {
         return false;
     }
@@ -164,6 +192,28 @@ fn one_frame(
         &mut book[..k],
         &mut waiting[..t],
     )
+}
+
+// One frame; false where the input ends, its call is unknown, or it cannot be held.
+fn one_frame(
+    quorums: &mut [u32],
+    weaks: &mut [u32],
+    board: &mut [u8],
+    cells: &mut [u8],
+    heard: &mut [u8],
+    book: &mut [u8],
+    waiting: &mut [u8],
+) -> bool {
+    let mut front = [0u8; 552];
+    if io::read_full(STDIN_FILENO, &mut front) != 552 {
+        return false;
+    }
+    let request = frame::reading::request(&front);
+    let arguments = request.arguments;
+    let Found::Call(call) = frame::which::found(request.call, arguments) else {
+        return false;
+    };
+    hold(request, call, quorums, weaks, board, cells, heard, book, waiting)
 }
 
 // Frame after frame.
