@@ -5,8 +5,11 @@ ghost use Rattle.rules.specs.Lent.{memory};
 ghost use Rattle.rules.specs.Steps as steps;
 ghost use Rattle.rules.specs.Steps.{c1a, c1b, c1c};
 ghost use Rattle.rules.specs.Replies.{answerOf, bare, Did};
+ghost use Rattle.rules.specs.Promises.{CallSettled, OpeningSettled};
+ghost use Rattle.tell.specs.Past.{BookSettled};
 
 pub mod asks; // asks.rt: asking a row, and the book
+pub mod opening; // opening.rt: opening a room
 pub mod posts; // posts.rt: the foreign post
 pub mod steps; // steps.rt: a step of any kind
 pub mod votes; // votes.rt: 2av and 2b
@@ -17,6 +20,14 @@ use rules::Node;
 use rules::Reply;
 use rules::Row;
 use rules::Tube;
+
+// Each contract allows one outcome: the answer's number and values, the house record and every lent byte. `Did` is the contract of every
+// call here but the book's, `Opened` that of opening, `BookDid` the book's.
+pub fn settled()
+    ensures calls { λ r. ⌜ CallSettled ⌝ }
+    ensures opening { λ r. ⌜ OpeningSettled ⌝ }
+    ensures book { λ r. ⌜ BookSettled ⌝ }
+{}
 
 // What a call answers, and the house record afterwards.
 pub struct Outcome {

@@ -5,8 +5,8 @@ ghost use lib.ListN.{length};
 ghost use Rattle.rules.specs.Lent.{patch};
 ghost use Rattle.named.specs.Told.{told};
 ghost use Rattle.frame.specs.Frame.{replyOf};
-use image::numbers::write_u32;
 use image::numbers::write_u8;
+use image::numbers::write_u32;
 use named::Answer;
 use rules::House;
 

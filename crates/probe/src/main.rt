@@ -132,7 +132,17 @@ fn answer(
     if !read_rest(quorums, weaks, board, cells, heard, book, waiting) {
         return false;
     }
-    reply(request, call, quorums, weaks, board, cells, heard, book, waiting)
+    reply(
+        request,
+        call,
+        quorums,
+        weaks,
+        board,
+        cells,
+        heard,
+        book,
+        waiting,
+    )
 }
 
 fn size(n: u32) -> usize
@@ -213,7 +223,17 @@ fn one_frame(
     let Found::Call(call) = frame::which::found(request.call, arguments) else {
         return false;
     };
-    hold(request, call, quorums, weaks, board, cells, heard, book, waiting)
+    hold(
+        request,
+        call,
+        quorums,
+        weaks,
+        board,
+        cells,
+        heard,
+        book,
+        waiting,
+    )
 }
 
 // Frame after frame.

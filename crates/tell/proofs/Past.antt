@@ -23,7 +23,7 @@ use Rattle.kept.proofs.Stay.{after-by}
 use Rattle.tell.specs.declared.Figures.{Figures}
 use Rattle.tell.specs.Votes.{Countable}
 use Rattle.tell.specs.Lines.{Written}
-use Rattle.tell.specs.Past.{past, told, BookDid}
+use Rattle.tell.specs.Past.{past, told, BookDid, BookSettled}
 
 -- ---- the votes can be counted
 
@@ -168,3 +168,7 @@ module _ (m : Memory) (p q : List ℕ) where
     rows = w .rows ∙ rw (past-reply m (book p q) e);
     waiting = w .waiting ∙ rw (past-reply m (book p q) e);
   }
+
+pub book-settled : BookSettled
+book-settled m p q p₁ p₂ q₁ q₂ a a′ g h =
+    (g .did .answer ∙ sym (h .did .answer), (g .rows ∙ sym (h .rows), g .waiting ∙ sym (h .waiting)))

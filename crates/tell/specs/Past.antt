@@ -24,3 +24,7 @@ pub record BookDid (m : Memory) (p q p′ q′ : List ℕ) (a : Answer) : Type 0
   pub did : Did m (book p q) a m
   pub rows : p′ ≡ rowsAfter m p q
   pub waiting : q′ ≡ waitingAfter m p q
+
+-- the book's contract allows one outcome: its answer, and every byte of its two areas
+abbrev pub BookSettled : Type 0
+BookSettled = (m : Memory) (p q p₁ p₂ q₁ q₂ : List ℕ) (a a′ : Answer) → BookDid m p q p₁ q₁ a → BookDid m p q p₂ q₂ a′ → (a ≡ a′) × ((p₁ ≡ p₂) × (q₁ ≡ q₂))
