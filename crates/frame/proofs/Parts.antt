@@ -1,7 +1,7 @@
 -- A request whose parts were read each from its place is the one that stands there.
-use mathlib.Core.Path.{_≡_, refl, sym, ap, _∙_}
+use mathlib.Core.Path.{_≡_}
 use mathlib.Core.List.{List}
-use Prim.Native.Nat.{ℕ, _-_, _≤_}
+use Prim.Native.Nat.{ℕ, _-_}
 use native.Mathlib.Omega.{arith}
 use lib.ListN.{length, getD, take, drop, length-drop}
 use lib.Seq.{take-all}
@@ -14,8 +14,8 @@ pub parts : (s : List ℕ) {a p : List ℕ} {h : House} {q w b c k o t : ℕ} �
     → h ≡ houseAt (take (length s - 65) (drop 65 s)) → q ≡ fourAt s 524 → w ≡ fourAt s 528 → b ≡ fourAt s 532 → c ≡ fourAt s 536
     → k ≡ fourAt s 540 → o ≡ fourAt s 544 → t ≡ fourAt s 548
     → _≡_ {A = Request}
-        (record { call = getD s 0 0; arguments = a; pairs = p; house = h; quorums = q; weaks = w; board = b; cells = c; heard = k; book = o; waiting = t })
-        (requestOf s)
+    (record { call = getD s 0 0; arguments = a; pairs = p; house = h; quorums = q; weaks = w; board = b; cells = c; heard = k; book = o; waiting = t })
+    (requestOf s)
 unfolding requestOf
 parts s a p h q w b c k o t =
     let rest : take (length s - 65) (drop 65 s) ≡ drop 65 s = take-all (length s - 65) (drop 65 s) (simp length-drop (omega arith)) in

@@ -5,11 +5,12 @@ ghost use lib.ListN.{length};
 ghost use Rattle.rules.specs.Lent.{patch};
 ghost use Rattle.named.specs.Told.{told};
 ghost use Rattle.frame.specs.Frame.{replyOf};
-use image::numbers::write_u32;
 use image::numbers::write_u8;
+use image::numbers::write_u32;
 use named::Answer;
 use rules::House;
 
+// The answer's number and values, and the house record behind them.
 pub fn reply(answer: Answer, house: House, out: &mut [u8])
     requires { ⌜ 472 ≤ length (now out) ⌝ }
     ensures { λ _. ⌜ now (out .exit) ≡ patch (now (out .entry)) 0 (replyOf (told answer) house) ⌝ }
