@@ -49,8 +49,8 @@ requestOf s = record {
 -- ---- the call
 
 -- a foreign post by its kind: 1b 2, 2av 4, 2b 5
-abbrev pub postOf : List ℕ → Post
-postOf a = let at : ℕ → ℕ = λ k. getD a k 0 in
+abbrev pub foreignOf : List ℕ → Post
+foreignOf a = let at : ℕ → ℕ = λ k. getD a k 0 in
     pick (eqb (at 0) 2) (OneB (record { row = at 1; ballot = at 2; node = at 3; mbal = at 5; mval = at 6; count = at 7 }))
     (pick (eqb (at 0) 4) (Relay (record { row = at 1; ballot = at 2; node = at 3; tube = at 4 }))
     (pick (eqb (at 0) 5) (Accept (record { row = at 1; ballot = at 2; node = at 3; tube = at 4 }))
@@ -66,7 +66,7 @@ stepOf k a = let at : ℕ → ℕ = λ i. getD a i 0 in
     (pick (eqb k 5) (Send2b (at 0) (at 1) (at 2) (at 3))
     (pick (eqb k 6) (Hear (at 0) (at 1))
     (pick (eqb k 7) (Scan (at 0) (at 1))
-    (Foreign (postOf a))))))))
+    (Foreign (foreignOf a))))))))
 
 -- what a call's number asks for; there is no call above 10
 abbrev pub foundOf : ℕ → List ℕ → Found
@@ -78,25 +78,25 @@ foundOf k a = let at : ℕ → ℕ = λ i. getD a i 0 in
     Nothing)))
 
 -- the memory that a frame lends: the room's, and the book's areas for rows and waiting tubes
-pub record Lent : Type 0 where
+pub record Loan : Type 0 where
   pub memory : Memory
   pub book : List ℕ
   pub waiting : List ℕ
 
-abbrev pub lent : Memory → List ℕ → List ℕ → Lent
-lent m p q = record { memory = m; book = p; waiting = q }
+abbrev pub loan : Memory → List ℕ → List ℕ → Loan
+loan m p q = record { memory = m; book = p; waiting = q }
 
 -- the book's areas stay
-pub record Aside (l l′ : Lent) : Type 0 where
+pub record Aside (l l′ : Loan) : Type 0 where
   pub book : l′ .book ≡ l .book
   pub waiting : l′ .waiting ≡ l .waiting
 
 -- all that a frame's call does: with its pairs and its two lists, on the memory that it lends
-unfoldable pub Served : Asked → List ℕ → List ℕ → List ℕ → Lent → Answer → Lent → Type 0
-Served (Opening n f r c) pairs quorums weaks l a l′ = Opened (room n f r c quorums weaks) (l .memory) a (l′ .memory) × Aside l l′
-Served (Step s) pairs quorums weaks l a l′ = Did (l .memory) (callOf s pairs) a (l′ .memory) × Aside l l′
-Served (Row r) pairs quorums weaks l a l′ = Did (l .memory) (ask r) a (l′ .memory) × Aside l l′
-Served Book pairs quorums weaks l a l′ = BookDid (l .memory) (l .book) (l .waiting) (l′ .book) (l′ .waiting) a × (l′ .memory ≡ l .memory)
+unfoldable pub CallDid : Asked → List ℕ → List ℕ → List ℕ → Loan → Answer → Loan → Type 0
+CallDid (Opening n f r c) pairs quorums weaks l a l′ = Opened (room n f r c quorums weaks) (l .memory) a (l′ .memory) × Aside l l′
+CallDid (Step s) pairs quorums weaks l a l′ = Did (l .memory) (callOf s pairs) a (l′ .memory) × Aside l l′
+CallDid (Row r) pairs quorums weaks l a l′ = Did (l .memory) (ask r) a (l′ .memory) × Aside l l′
+CallDid Book pairs quorums weaks l a l′ = BookDid (l .memory) (l .book) (l .waiting) (l′ .book) (l′ .waiting) a × (l′ .memory ≡ l .memory)
 
 -- ---- the reply
 

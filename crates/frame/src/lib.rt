@@ -3,7 +3,7 @@ ghost use mathlib.Core.Path.{_≡_};
 ghost use Rattle.rules.specs.Lent.{memory};
 ghost use Rattle.rules.specs.Replies.{answerOf};
 ghost use Rattle.named.specs.Told as numbers;
-ghost use Rattle.frame.specs.Frame.{lent, Served as does};
+ghost use Rattle.frame.specs.Frame.{loan, CallDid};
 use named::Answer;
 use rules::House;
 use step::Step;
@@ -11,6 +11,11 @@ use step::Step;
 pub mod reading; // reading.rt: the request's bytes
 pub mod which; // which.rt: the call that a number asks for
 pub mod writing; // writing.rt: the reply's bytes
+
+// The length of a request's front, and of a reply's.
+pub const REQUEST: usize = 552;
+
+pub const REPLY: usize = 472;
 
 // The front of a request: all but the lists and the areas, and how long those are.
 pub struct Request {
@@ -65,7 +70,7 @@ pub fn serve(
     call: Asked,
     pairs: [u32; 32],
 ) -> Served
-    ensures { λ r. ⌜ does call pairs (now (quorums .entry)) (now (weaks .entry)) (lent (memory house (now (board .entry)) (now (cells .entry)) (now (heard .entry))) (now (book .entry)) (now (waiting .entry))) (numbers.told (r .answer)) (lent (memory (r .house) (now (board .exit)) (now (cells .exit)) (now (heard .exit))) (now (book .exit)) (now (waiting .exit))) ⌝ }
+    ensures { λ r. ⌜ CallDid call pairs (now (quorums .entry)) (now (weaks .entry)) (loan (memory house (now (board .entry)) (now (cells .entry)) (now (heard .entry))) (now (book .entry)) (now (waiting .entry))) (numbers.told (r .answer)) (loan (memory (r .house) (now (board .exit)) (now (cells .exit)) (now (heard .exit))) (now (book .exit)) (now (waiting .exit))) ⌝ }
 {
     match call {
         Asked::Opening {

@@ -6,9 +6,6 @@ ghost use Rattle.frame.specs.Frame.{numbersAt, requestOf};
 use crate::Request;
 use image::numbers::read_u32;
 
-// The length of a request's front.
-pub const FRONT: usize = 552;
-
 // The eight arguments.
 fn arguments(s: &[u8]) -> [u32; 8]
     requires { ⌜ 552 ≤ length (now s) ⌝ }
@@ -43,6 +40,7 @@ fn pairs(s: &[u8]) -> [u32; 32]
     out
 }
 
+// All of the front, each part from its place.
 pub fn request(s: &[u8]) -> Request
     requires { ⌜ 552 ≤ length (now s) ⌝ }
     ensures { λ r. ⌜ r ≡ requestOf (now (s .entry)) ⌝ }

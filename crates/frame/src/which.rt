@@ -1,6 +1,6 @@
 // Which call a frame's number asks for, with which of the eight arguments.
 ghost use mathlib.Core.Path.{_≡_};
-ghost use Rattle.frame.specs.Frame.{foundOf, stepOf, postOf};
+ghost use Rattle.frame.specs.Frame.{foundOf, stepOf, foreignOf};
 use crate::Asked;
 use crate::Found;
 use step::OneB;
@@ -10,7 +10,7 @@ use step::Vote;
 
 // A foreign post by its kind; another kind has no fields to hand over.
 fn post(a: [u32; 8]) -> Post
-    ensures { λ r. ⌜ r ≡ postOf a ⌝ }
+    ensures { λ r. ⌜ r ≡ foreignOf a ⌝ }
 {
     let kind = a[0];
     if kind == 2 {
@@ -81,6 +81,7 @@ fn step(number: u8, a: [u32; 8]) -> Step
     }
 }
 
+// The call that a number asks for; there is none above 10.
 pub fn found(number: u8, a: [u32; 8]) -> Found
     ensures { λ r. ⌜ r ≡ foundOf number a ⌝ }
 {

@@ -10,6 +10,7 @@ use image::numbers::write_u32;
 use named::Answer;
 use rules::House;
 
+// The answer's number and values, and the house record behind them.
 pub fn reply(answer: Answer, house: House, out: &mut [u8])
     requires { ⌜ 472 ≤ length (now out) ⌝ }
     ensures { λ _. ⌜ now (out .exit) ≡ patch (now (out .entry)) 0 (replyOf (told answer) house) ⌝ }

@@ -4,11 +4,11 @@ use mathlib.Core.List.{List, [], _∷_, _++_, append-assoc}
 use Prim.Native.Nat.{ℕ, zero, suc, _+_, _*_, _≤_, _<_}
 use native.Mathlib.Numerals.{add-one}
 use native.Mathlib.Omega.{arith}
-use lib.ListN.{length, getD, take, drop, set, length-append, take-append-drop}
+use lib.ListN.{length, take, drop, set, length-append, take-append-drop}
 use lib.Seq.{paste, set-split, drop-drop, take-all, take-at, drop-at, length-take-le, take-suc-set, getD-drop}
 use Rattle.rules.specs.Lent.{patch}
 use Rattle.rules.specs.declared.House.{House}
-use Rattle.image.specs.Image.{four, scans, image, fourAt}
+use Rattle.image.specs.Image.{scans, image, fourAt}
 
 -- nothing written
 pub none-yet : (s : List ℕ) (at : ℕ) → s ≡ patch s at []
@@ -56,4 +56,4 @@ four-drop s n k =
 
 pub length-image : (h : House) → length (h .quorums) ≡ 64 → length (h .weaks) ≡ 64 → length (image h) ≡ 459
 unfolding image
-length-image h q w = simp (length-append, length-scans) (omega arith)
+length-image h q w = simp length-append (omega arith)

@@ -9,9 +9,6 @@ use rules::House;
 pub mod numbers; // numbers.rt: numbers of one, two and four bytes
 mod tables; // tables.rt: the node sets and the scans
 
-// The length of a house image.
-pub const SIZE: usize = 459;
-
 // The house record that stands at the front of some bytes.
 pub fn read_house(s: &[u8]) -> House
     requires { ⌜ 459 ≤ length (now s) ⌝ }
@@ -69,4 +66,13 @@ pub fn write_house(h: House, out: &mut [u8])
     tables::write_scans(out, stations, serials);
     numbers::write_u8(out, 456, h.marks);
     numbers::write_u16(out, 457, h.count);
+}
+
+// What was written is read back, for every house record that there is.
+pub fn read_back(h: House) -> House
+    ensures { λ r. ⌜ r ≡ h ⌝ }
+{
+    let mut out = [0u8; 459];
+    write_house(h, &mut out);
+    read_house(&out)
 }

@@ -37,7 +37,7 @@ fn write_reply(
 ) -> bool {
     let answer = served.answer;
     let house = served.house;
-    let mut front = [0u8; 472];
+    let mut front = [0u8; frame::REPLY];
     frame::writing::reply(answer, house, &mut front);
     if !io::write_all(STDOUT_FILENO, &front) {
         return false;
@@ -214,8 +214,8 @@ fn one_frame(
     book: &mut [u8],
     waiting: &mut [u8],
 ) -> bool {
-    let mut front = [0u8; 552];
-    if io::read_full(STDIN_FILENO, &mut front) != 552 {
+    let mut front = [0u8; frame::REQUEST];
+    if io::read_full(STDIN_FILENO, &mut front) != frame::REQUEST {
         return false;
     }
     let request = frame::reading::request(&front);

@@ -1,6 +1,6 @@
 -- Holding a frame: each part that is lent lies within its area, as its test says.
-use native.Mathlib.Omega.{arith}
-use lib.ListN.{length-take}
+use mathlib.Core.Path.{sym}
+use lib.Seq.{length-take-le}
 use borrow.Author.Needs.{needs}
 use Rattle.probe.proofs.hold.Statement.{statement}
 use Rattle.probe.proofs.hold.Tie as tie
@@ -48,46 +48,46 @@ returns-7 : tie.Need-returns-7
 returns-7 c = search needs
 
 slice-relend-prefix-answer : tie.Need-slice-relend-prefix-answer
-slice-relend-prefix-answer c = search needs
+slice-relend-prefix-answer c = c .before .before .before .before .before .before .if1 .left
 
 slice-aggregate-answer : tie.Need-slice-aggregate-answer
-slice-aggregate-answer c = simp length-take (omega arith)
+slice-aggregate-answer c = sym (length-take-le _ _ (c .before .before .before .before .before .before .before .if1 .left))
 
 slice-relend-prefix-answer-2 : tie.Need-slice-relend-prefix-answer-2
-slice-relend-prefix-answer-2 c = search needs
+slice-relend-prefix-answer-2 c = c .before .before .before .before .before .before .if2 .left
 
 slice-aggregate-answer-2 : tie.Need-slice-aggregate-answer-2
-slice-aggregate-answer-2 c = simp length-take (omega arith)
+slice-aggregate-answer-2 c = sym (length-take-le _ _ (c .before .before .before .before .before .before .before .if2 .left))
 
 slice-relend-prefix-answer-3 : tie.Need-slice-relend-prefix-answer-3
-slice-relend-prefix-answer-3 c = search needs
+slice-relend-prefix-answer-3 c = c .before .before .before .before .before .before .if3 .left
 
 slice-aggregate-answer-3 : tie.Need-slice-aggregate-answer-3
-slice-aggregate-answer-3 c = simp length-take (omega arith)
+slice-aggregate-answer-3 c = sym (length-take-le _ _ (c .before .before .before .before .before .before .before .if3 .left))
 
 slice-relend-prefix-answer-4 : tie.Need-slice-relend-prefix-answer-4
-slice-relend-prefix-answer-4 c = search needs
+slice-relend-prefix-answer-4 c = c .before .before .before .before .before .before .if4 .left
 
 slice-aggregate-answer-4 : tie.Need-slice-aggregate-answer-4
-slice-aggregate-answer-4 c = simp length-take (omega arith)
+slice-aggregate-answer-4 c = sym (length-take-le _ _ (c .before .before .before .before .before .before .before .if4 .left))
 
 slice-relend-prefix-answer-5 : tie.Need-slice-relend-prefix-answer-5
-slice-relend-prefix-answer-5 c = search needs
+slice-relend-prefix-answer-5 c = c .before .before .before .before .before .before .if5 .left
 
 slice-aggregate-answer-5 : tie.Need-slice-aggregate-answer-5
-slice-aggregate-answer-5 c = simp length-take (omega arith)
+slice-aggregate-answer-5 c = sym (length-take-le _ _ (c .before .before .before .before .before .before .before .if5 .left))
 
 slice-relend-prefix-answer-6 : tie.Need-slice-relend-prefix-answer-6
-slice-relend-prefix-answer-6 c = search needs
+slice-relend-prefix-answer-6 c = c .before .before .before .before .before .before .if6 .left
 
 slice-aggregate-answer-6 : tie.Need-slice-aggregate-answer-6
-slice-aggregate-answer-6 c = simp length-take (omega arith)
+slice-aggregate-answer-6 c = sym (length-take-le _ _ (c .before .before .before .before .before .before .before .if6 .left))
 
 slice-relend-prefix-answer-7 : tie.Need-slice-relend-prefix-answer-7
-slice-relend-prefix-answer-7 c = search needs
+slice-relend-prefix-answer-7 c = c .before .before .before .before .before .before .if7 .left
 
 slice-aggregate-answer-7 : tie.Need-slice-aggregate-answer-7
-slice-aggregate-answer-7 c = simp length-take (omega arith)
+slice-aggregate-answer-7 c = sym (length-take-le _ _ (c .before .before .before .before .before .before .before .if7 .left))
 
 answer-requires : tie.Need-answer-requires
 answer-requires c κs = search needs
