@@ -20,15 +20,9 @@ use Rattle.differ.specs.Differ.{newMessage, mix, slotOf, Stands, Other, 
 
 -- ---- where bytes are looked for
 
-pub mix-low : (h : ℕ) (l : List ℕ) → h < 2039 → mix h l < 2039
+pub mix-low : (l : List ℕ) → mix l < 2039
 unfolding mix
-mix-low h [] p = p
-mix-low h (x ∷ l) p = mix-low ((h * 31 + x) % 2039) l (omega arith)
-
--- one byte more
-pub mix-more : (l : List ℕ) (i h : ℕ) → i < length l → mix h (drop i l) ≡ mix ((h * 31 + getD l i 0) % 2039) (drop (i + 1) l)
-unfolding mix
-mix-more l i h p = rw (add-one, drop-cons l i 0 p)
+mix-low l = omega arith
 
 -- ---- a table
 
@@ -47,7 +41,7 @@ table-none s = record {
 module _ (s slots : List ℕ) (k r : ℕ) (t : Table s slots k) (p : Probed s slots k (slotOf s k) r) where
   met : r < 3072 → (j : ℕ) → window 40 j s ≡ window 40 k s → Stands s slots j r → eqs (window 40 j s) (window 40 k s) ≡ false
   met h j w f =
-      let o : slotOf s j ≡ slotOf s k = ap (mix 0) w in
+      let o : slotOf s j ≡ slotOf s k = ap mix w in
       let q = p .passed (omega arith) (f .0) (omega (arith, f .1)) (f .2) in
       let e : getD slots (f .0) 0 - 1 ≡ j = omega (arith, f .3) in
       rw e at (q .1)
@@ -59,7 +53,7 @@ module _ (s slots : List ℕ) (k r : ℕ) (t : Table s slots k) (p : Probed s sl
       go : (j : ℕ) → j < k → (b : Bool) → eqs (window 40 j s) (window 40 k s) ≡ b → not b ≡ true
       go j l true e =
           let w = eqs-means (window 40 j s) (window 40 k s) (rw e tt) in
-          let o : slotOf s j ≡ slotOf s k = ap (mix 0) w in
+          let o : slotOf s j ≡ slotOf s k = ap mix w in
           ap not (sym e ∙ met h j w (t .held j r l (omega (arith, p .from)) h (p .empty h)))
       go j l false e = refl
 

@@ -11,14 +11,13 @@ use Rattle.rules.specs.Lent.{window}
 abbrev pub newMessage : List ℕ → ℕ → Bool
 newMessage s k = allBelow (λ j. not (eqs (window 40 j s) (window 40 k s))) k
 
--- bytes to a number below 2,039
-unfoldable pub mix : ℕ → List ℕ → ℕ
-mix h [] = h
-mix h (x ∷ l) = mix ((h * 31 + x) % 2039) l
+-- a message's fields, without its pairs, to a number below 2,039
+unfoldable pub mix : List ℕ → ℕ
+mix s = (((getD s 0 0 * 1 + getD s 1 0 * 31) + (getD s 2 0 * 961 + getD s 3 0 * 1245)) + ((getD s 4 0 * 1893 + getD s 5 0 * 1591) + (getD s 6 0 * 385 + getD s 7 0 * 1740))) % 2039
 
 -- where the message numbered k is looked for first
 abbrev pub slotOf : List ℕ → ℕ → ℕ
-slotOf s k = mix 0 (window 40 k s)
+slotOf s k = mix (window 40 k s)
 
 -- message j stands in a slot before e, at or after the one where it is looked for first
 abbrev pub Stands : List ℕ → List ℕ → ℕ → ℕ → Type 0

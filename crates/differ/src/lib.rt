@@ -34,19 +34,24 @@ pub fn message_new(board: &[u8], k: usize) -> bool
     !board::stands(board, k, &board[a..e])
 }
 
-// Where bytes are looked for first.
+// A byte times its weight.
+fn weighed(x: u8, weight: u16) -> usize
+    ensures { λ r. ⌜ r ≡ x * weight ⌝ }
+    ensures { λ r. ⌜ r ≤ 16711425 ⌝ }
+{
+    x as usize * weight as usize
+}
+
+// Where a message's bytes are looked for first: by its fields, in which ordinary messages differ.
 pub fn slot_of(bytes: &[u8]) -> usize
     requires { ⌜ length (now bytes) ≡ 40 ⌝ }
-    ensures { λ r. ⌜ r ≡ mix 0 (now (bytes .entry)) ⌝ }
+    ensures { λ r. ⌜ r ≡ mix (now (bytes .entry)) ⌝ }
 {
-    let mut h: usize = 0;
-    let mut i: usize = 0;
-    while i < bytes.len() {
-        let x = bytes[i] as usize;
-        h = (h * 31 + x) % 2039;
-        i += 1;
-    }
-    h
+    let start = weighed(bytes[0], 1) + weighed(bytes[1], 31);
+    let place = start + (weighed(bytes[2], 961) + weighed(bytes[3], 1245));
+    let named = weighed(bytes[4], 1893) + weighed(bytes[5], 1591);
+    let vote = named + (weighed(bytes[6], 385) + weighed(bytes[7], 1740));
+    (place + vote) % 2039
 }
 
 // Where the message numbered k is looked for first.

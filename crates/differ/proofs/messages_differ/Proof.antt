@@ -34,7 +34,7 @@ probe-requires c κs =
     let f = c .before in
     let l = f .before .before in
     let t = l .loop .inv .1 .1 in
-    let m = mix-low 0 (window 40 (l .loop .k) (l .before .before .args .board .now)) (omega arith) in
+    let m = mix-low (window 40 (l .loop .k) (l .before .before .args .board .now)) in
     ((omega arith, omega arith), ((t .long, t .low), omega (arith, f .first-slot .ensures)))
 
 settled-requires : tie.Need-settled-requires Inv-loop μ-loop

@@ -1,67 +1,107 @@
--- Byte by byte: what is mixed so far and what is left give the whole.
-use mathlib.Core.Path.{_≡_, refl, ap, sym, _∙_}
-use Prim.Native.Nat.{ℕ, _+_, _-_, _*_, _≤_, _<_}
-use native.Mathlib.Omega.{arith}
-use borrow.Author.Needs.{needs}
-use lib.ListN.{length, drop}
-use lib.Seq.{drop-length}
+-- The weighed fields are added up.
 use Rattle.differ.specs.Differ.{mix}
-use Rattle.differ.proofs.Slots.{mix-more}
+use borrow.Author.Needs.{needs}
 use Rattle.differ.proofs.slot_of.Statement.{statement}
 use Rattle.differ.proofs.slot_of.Tie as tie
 
-abbrev Inv-loop : tie.InvT-loop
-Inv-loop bytes h₀ i₀ h i = (i ≤ length bytes) × ((h < 2039) × (mix h (drop i bytes) ≡ mix 0 bytes))
+shared-slice-read-weighed : tie.Need-shared-slice-read-weighed
+shared-slice-read-weighed c = search needs
 
-abbrev μ-loop : tie.MeasureT-loop
-μ-loop bytes h₀ i₀ h i = length bytes - i
+weighed-requires : tie.Need-weighed-requires
+weighed-requires c κs = search needs
 
-loop-holds : tie.Need-loop-holds Inv-loop μ-loop
-loop-holds c = (omega arith, (omega arith, refl))
+shared-slice-read-weighed-2 : tie.Need-shared-slice-read-weighed-2
+shared-slice-read-weighed-2 c = search needs
 
-shared-slice-read-x : tie.Need-shared-slice-read-x Inv-loop μ-loop
-shared-slice-read-x c = search needs
+weighed-requires-2 : tie.Need-weighed-requires-2
+weighed-requires-2 c κs = search needs
 
-cast-x : tie.Need-cast-x Inv-loop μ-loop
-cast-x c = omega (arith, c .shared-slice-known .given (c .before .before .loop .i))
+add-start : tie.Need-add-start
+add-start c = search needs
 
-mul-h : tie.Need-mul-h Inv-loop μ-loop
-mul-h c = omega (arith, c .shared-slice-known .given (c .before .before .loop .i))
+shared-slice-read-weighed-3 : tie.Need-shared-slice-read-weighed-3
+shared-slice-read-weighed-3 c = search needs
 
-add-h : tie.Need-add-h Inv-loop μ-loop
-add-h c = omega (arith, c .shared-slice-known .given (c .before .before .loop .i))
+weighed-requires-3 : tie.Need-weighed-requires-3
+weighed-requires-3 c κs = search needs
 
-add-i : tie.Need-add-i Inv-loop μ-loop
-add-i c = search needs
+shared-slice-read-weighed-4 : tie.Need-shared-slice-read-weighed-4
+shared-slice-read-weighed-4 c = search needs
 
-loop-less : tie.Need-loop-less Inv-loop μ-loop
-loop-less c = search needs
+weighed-requires-4 : tie.Need-weighed-requires-4
+weighed-requires-4 c κs = search needs
 
-loop-again : tie.Need-loop-again Inv-loop μ-loop
-loop-again c =
-    let l = c .before .before in
-    (omega arith, (omega arith, sym (mix-more (l .before .args .bytes .now) (l .loop .i) (l .loop .h) (omega arith)) ∙ l .loop .inv .1 .1))
+add-place : tie.Need-add-place
+add-place c = search needs
 
-returns : tie.Need-returns Inv-loop μ-loop
+add-place-2 : tie.Need-add-place-2
+add-place-2 c = search needs
+
+shared-slice-read-weighed-5 : tie.Need-shared-slice-read-weighed-5
+shared-slice-read-weighed-5 c = search needs
+
+weighed-requires-5 : tie.Need-weighed-requires-5
+weighed-requires-5 c κs = search needs
+
+shared-slice-read-weighed-6 : tie.Need-shared-slice-read-weighed-6
+shared-slice-read-weighed-6 c = search needs
+
+weighed-requires-6 : tie.Need-weighed-requires-6
+weighed-requires-6 c κs = search needs
+
+add-named : tie.Need-add-named
+add-named c = search needs
+
+shared-slice-read-weighed-7 : tie.Need-shared-slice-read-weighed-7
+shared-slice-read-weighed-7 c = search needs
+
+weighed-requires-7 : tie.Need-weighed-requires-7
+weighed-requires-7 c κs = search needs
+
+shared-slice-read-weighed-8 : tie.Need-shared-slice-read-weighed-8
+shared-slice-read-weighed-8 c = search needs
+
+weighed-requires-8 : tie.Need-weighed-requires-8
+weighed-requires-8 c κs = search needs
+
+add-vote : tie.Need-add-vote
+add-vote c = search needs
+
+add-vote-2 : tie.Need-add-vote-2
+add-vote-2 c = search needs
+
+add-result : tie.Need-add-result
+add-result c = search needs
+
+returns : tie.Need-returns
 unfolding mix
-returns c =
-    let l = c .before in
-    let b = l .before .args .bytes .now in
-    let e : l .loop .i ≡ length b = omega arith in
-    rw (e, drop-length b) at (l .loop .inv .1 .1)
+returns c = rw (c .before .before .before .before .before .before .before .before .before .before .before .before .before .before .weighed .ensures .0, c .before .before .before .before .before .before .before .before .before .before .before .before .weighed2 .ensures .0, c .before .before .before .before .before .before .before .before .before .before .weighed3 .ensures .0, c .before .before .before .before .before .before .before .before .weighed4 .ensures .0, c .before .before .before .before .before .before .weighed5 .ensures .0, c .before .before .before .before .weighed6 .ensures .0, c .before .before .weighed7 .ensures .0, c .weighed8 .ensures .0)
 
 pub slot-of-spec : {M : Type 1} → statement M
 slot-of-spec =
     tie.close
     (tie.spec
-    Inv-loop
-    μ-loop
-    loop-holds
-    shared-slice-read-x
-    cast-x
-    mul-h
-    add-h
-    add-i
-    loop-less
-    loop-again
+    shared-slice-read-weighed
+    weighed-requires
+    shared-slice-read-weighed-2
+    weighed-requires-2
+    add-start
+    shared-slice-read-weighed-3
+    weighed-requires-3
+    shared-slice-read-weighed-4
+    weighed-requires-4
+    add-place
+    add-place-2
+    shared-slice-read-weighed-5
+    weighed-requires-5
+    shared-slice-read-weighed-6
+    weighed-requires-6
+    add-named
+    shared-slice-read-weighed-7
+    weighed-requires-7
+    shared-slice-read-weighed-8
+    weighed-requires-8
+    add-vote
+    add-vote-2
+    add-result
     returns)
