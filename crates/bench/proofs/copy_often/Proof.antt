@@ -1,0 +1,47 @@
+-- Copying again and again: the turns that are left run out.
+use Prim.Native.Nat.{_≤_}
+use borrow.Author.Needs.{needs}
+use Rattle.bench.proofs.copy_often.Statement.{statement}
+use Rattle.bench.proofs.copy_often.Tie as tie
+
+abbrev Inv-loop : tie.InvT-loop
+Inv-loop times given board₀ cells₀ heard₀ left₀ board cells heard left =
+    left ≤ times
+
+abbrev μ-loop : tie.MeasureT-loop
+μ-loop times given board₀ cells₀ heard₀ left₀ board cells heard left = left
+
+loop-holds : tie.Need-loop-holds Inv-loop μ-loop
+loop-holds c = search needs
+
+renew-requires : tie.Need-renew-requires Inv-loop μ-loop
+renew-requires c κs = search needs
+
+sub-left : tie.Need-sub-left Inv-loop μ-loop
+sub-left c = search needs
+
+loop-less : tie.Need-loop-less Inv-loop μ-loop
+loop-less c = search needs
+
+loop-again : tie.Need-loop-again Inv-loop μ-loop
+loop-again c = search needs
+
+read-once-requires : tie.Need-read-once-requires Inv-loop μ-loop
+read-once-requires c κs = search needs
+
+returns : tie.Need-returns Inv-loop μ-loop
+returns c = search needs
+
+pub copy-often-spec : {M : Type 1} → statement M
+copy-often-spec =
+    tie.close
+    (tie.spec
+    Inv-loop
+    μ-loop
+    loop-holds
+    renew-requires
+    sub-left
+    loop-less
+    loop-again
+    read-once-requires
+    returns)
