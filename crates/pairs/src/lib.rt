@@ -129,11 +129,28 @@ pub fn ascending(pairs: [u8; 32], count: u8) -> bool
     true
 }
 
+// Whether all bytes are 0: they are added up without a stop, which is the quickest for the many lists that have no pairs.
+pub fn no_pairs(pairs: [u8; 32]) -> bool
+    ensures { λ r. ⌜ r ≡ all (λ x. eqb x 0) pairs ⌝ }
+{
+    let mut sum: u32 = 0;
+    let mut i: usize = 0;
+    while i < 32 {
+        let x = pairs[i];
+        sum += x as u32;
+        i += 1;
+    }
+    sum == 0
+}
+
 // Whether the bytes from a place on are 0.
 pub fn zero_from(pairs: [u8; 32], at: usize) -> bool
     requires { ⌜ at ≤ 32 ⌝ }
     ensures { λ r. ⌜ r ≡ all (λ x. eqb x 0) (drop at pairs) ⌝ }
 {
+    if at == 0 {
+        return no_pairs(pairs);
+    }
     let mut i = at;
     while i < 32 {
         if pairs[i] != 0 {
