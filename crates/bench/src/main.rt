@@ -173,7 +173,15 @@ fn work(
     }
     if what == 1 {
         return call_often(
-            times, request, call, quorums, weaks, given, &mut board, &mut cells, &mut heard,
+            times,
+            request,
+            call,
+            quorums,
+            weaks,
+            given,
+            &mut board,
+            &mut cells,
+            &mut heard,
         );
     }
     copy_often(times, given, &mut board, &mut cells, &mut heard)
