@@ -1,5 +1,5 @@
 -- Which call a number asks for, where no arm of the match names it.
-use mathlib.Core.Path.{_≡_, refl}
+use mathlib.Core.Path.{_≡_}
 use mathlib.Core.List.{List}
 use Prim.Native.Nat.{ℕ, zero, suc, _≤_, _<_}
 use borrow.Author.Tests.{ne-eqb, le-leb, lt-leb}

@@ -1,5 +1,5 @@
 -- Reading part after part: a house record whose fields were read each from its place is the one that stands there.
-use mathlib.Core.Path.{_≡_, refl}
+use mathlib.Core.Path.{_≡_}
 use mathlib.Core.List.{List}
 use Prim.Native.Nat.{ℕ}
 use lib.ListN.{getD, take, drop}

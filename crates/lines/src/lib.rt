@@ -1,9 +1,9 @@
-// The sheet's lines: where a line ends, what a line says, and how a decimal is read and written.
+// The sheet's lines: what a line says, and how a decimal is read and written.
 ghost use mathlib.Core.Path.{_≡_};
 ghost use mathlib.Core.Bool.{true};
 ghost use mathlib.Core.List.{[]};
-ghost use Prim.Native.Nat.{ℕ, _+_, _≤_, _<_};
-ghost use lib.ListN.{length, drop, take};
+ghost use Prim.Native.Nat.{_+_, _≤_, _<_};
+ghost use lib.ListN.{length, drop};
 ghost use Rattle.rules.specs.Lent.{patch};
 ghost use Rattle.lines.specs.Splits.{next};
 ghost use Rattle.lines.specs.Decimal.{most, isDigit, follows, numberAt, decimal};
@@ -14,8 +14,8 @@ use step::Post;
 use step::Step;
 use step::Vote;
 
-// Where a line ends: at a newline, or not yet in what was read.
-pub enum End {
+// The next place of a byte in a text, if there is one.
+enum End {
     At(usize),
     Open,
 }
@@ -82,13 +82,6 @@ fn next_place(s: &[u8], from: usize, x: u8) -> End
         at += 1;
     }
     End::Open
-}
-
-// The end of the line that begins at a place.
-pub fn line_end(s: &[u8], from: usize) -> End
-    ensures { λ r. ⌜ r ≡ next 10 (drop from (now (s .entry))) from ⌝ }
-{
-    next_place(s, from, b'\n')
 }
 
 fn is_digit(b: u8) -> bool

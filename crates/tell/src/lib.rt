@@ -4,11 +4,10 @@ ghost use mathlib.Core.Bool.{false};
 ghost use Prim.Native.Nat.{_≤_, _<_};
 ghost use lib.ListN.{length, take};
 ghost use Rattle.rules.specs.Tests.{pick, first};
-ghost use Rattle.rules.specs.Lent.{memory, patch, msgAt, boardOf, roomOf, rowIn, read};
+ghost use Rattle.rules.specs.Lent.{memory, patch, msgAt, boardOf, roomOf, rowIn};
 ghost use Rattle.rules.specs.Steps.{ask, book};
 ghost use Rattle.rules.specs.Book.{outcome, isSplit};
-ghost use Rattle.rules.specs.Replies.{rules, gate, stopOf, answerOf, Did};
-ghost use Rattle.kept.specs.Kept.{Whole};
+ghost use Rattle.rules.specs.Replies.{gate, stopOf, answerOf, Did};
 ghost use Rattle.tell.specs.Votes.{Countable, Counted, withVote, voted, Within};
 ghost use Rattle.tell.specs.Chosen.{Seen, outcomeOf, filled, carried, Next};
 ghost use Rattle.tell.specs.Lines.{Reached, standing, lineOf, lines, Put, Left, Written};
@@ -278,17 +277,6 @@ fn row_in(h: rules::House, row: u32) -> bool
     (1 <= row) & (row <= h.rows as u32)
 }
 
-// The number that a split row is refused by.
-fn split_number(o: RowTube) -> u8
-    ensures { λ r. ⌜ r ≡ pick (isSplit (outcomeOf o)) 18 0 ⌝ }
-{
-    match o {
-        RowTube::Unchosen => 0,
-        RowTube::Agreed(_) => 0,
-        RowTube::Split => 18,
-    }
-}
-
 // What an asked row is told as: its tube, 0 for none, or 18.
 fn told_as(o: RowTube) -> rules::Reply
     ensures { λ r. ⌜ answerOf r ≡ told (outcomeOf o) ⌝ }
@@ -298,17 +286,6 @@ fn told_as(o: RowTube) -> rules::Reply
         RowTube::Agreed(t) => rules::Reply::Told(t),
         RowTube::Split => rules::Reply::Refused(rules::Refusal::SplitRow),
     }
-}
-
-// The number that asking a row is answered once memory passed the gate: 6 for no row of the room, 18 for a split.
-pub fn judge_ask(h: rules::House, board: &[u8], cells: &[u8], heard: &[u8], row: u32) -> u8
-    requires { ⌜ Whole (memory h (now board) (now cells) (now heard)) ⌝ }
-    ensures { λ r. ⌜ r ≡ first (rules (roomOf h) (read (memory h (now (board .entry)) (now (cells .entry)) (now (heard .entry)))) (ask row)) ⌝ }
-{
-    if !row_in(h, row) {
-        return 6;
-    }
-    split_number(row_outcome(h, board, row as u8))
 }
 
 // What asking a row is answered once memory passed the gate.

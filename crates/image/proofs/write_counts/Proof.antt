@@ -1,9 +1,6 @@
 -- Writing the counts: each number behind those before it.
-use mathlib.Core.Path.{_≡_}
 use mathlib.Core.List.{[], _∷_, _++_}
-use Prim.Native.Nat.{_+_}
 use native.Mathlib.Omega.{arith}
-use lib.ListN.{length}
 use Rattle.image.specs.Image.{two}
 use Rattle.image.proofs.Writing.{then}
 use borrow.Author.Needs.{needs}

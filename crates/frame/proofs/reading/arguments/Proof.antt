@@ -1,10 +1,10 @@
 -- Reading the arguments: each turn takes four bytes more.
-use Prim.Native.Nat.{_≤_, _-_, _*_, _+_}
-use mathlib.Core.Path.{_≡_, refl, ap, sym, _∙_}
+use Prim.Native.Nat.{_≤_, _-_, _*_}
+use mathlib.Core.Path.{_≡_, sym, _∙_}
 use native.Mathlib.Numerals.{add-one}
 use native.Mathlib.Omega.{arith}
 use borrow.Author.Needs.{needs}
-use lib.ListN.{length, take, drop, getD, length-set}
+use lib.ListN.{length, take, drop, length-set}
 use lib.Seq.{take-all}
 use Rattle.image.specs.Image.{fourAt}
 use Rattle.image.proofs.Writing.{one-more, four-drop}

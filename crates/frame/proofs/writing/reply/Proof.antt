@@ -1,10 +1,10 @@
 -- Writing a reply: each number behind those before it, and the house image behind them.
-use mathlib.Core.Path.{_≡_, _∙_}
+use mathlib.Core.Path.{_≡_}
 use mathlib.Core.List.{[], _∷_, _++_}
 use Prim.Native.Nat.{_-_}
 use native.Mathlib.Omega.{arith}
 use lib.ListN.{length}
-use Rattle.rules.proofs.Area.{part-patch, length-patch}
+use Rattle.rules.proofs.Area.{part-patch}
 use Rattle.image.specs.Image.{four, image}
 use Rattle.image.proofs.Writing.{then, length-image}
 use Rattle.frame.specs.Frame.{replyOf}

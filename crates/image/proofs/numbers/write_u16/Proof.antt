@@ -1,9 +1,7 @@
 -- Writing two bytes: the second behind the first.
-use mathlib.Core.Path.{_≡_}
-use mathlib.Core.List.{[], _∷_, _++_}
+use mathlib.Core.List.{[], _∷_}
 use Prim.Native.Nat.{_+_, _/_, _%_}
 use native.Mathlib.Omega.{arith}
-use lib.ListN.{length}
 use Rattle.image.proofs.Writing.{then}
 use borrow.Author.Needs.{needs}
 use Rattle.image.proofs.numbers.write_u16.Statement.{statement}

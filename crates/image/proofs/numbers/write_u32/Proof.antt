@@ -1,9 +1,7 @@
 -- Writing four bytes: each behind those before it.
-use mathlib.Core.Path.{_≡_}
-use mathlib.Core.List.{[], _∷_, _++_}
+use mathlib.Core.List.{[], _∷_}
 use Prim.Native.Nat.{_+_, _/_, _%_}
 use native.Mathlib.Omega.{arith}
-use lib.ListN.{length}
 use Rattle.image.proofs.Writing.{then}
 use borrow.Author.Needs.{needs}
 use Rattle.image.proofs.numbers.write_u32.Statement.{statement}

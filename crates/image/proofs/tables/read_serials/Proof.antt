@@ -1,12 +1,12 @@
 -- Reading the serials: each turn takes one more, four bytes of every five.
-use mathlib.Core.Path.{_≡_, refl, ap, sym, _∙_}
+use mathlib.Core.Path.{_≡_, ap, sym, _∙_}
 use Rattle.image.proofs.Writing.{one-more, four-drop}
 use borrow.Author.Needs.{needs}
 use Prim.Native.Nat.{_≤_, _-_, _*_, _+_}
 use native.Mathlib.Numerals.{add-one}
 use native.Mathlib.Omega.{arith}
-use lib.ListN.{length, take, drop, getD, length-set}
-use lib.Seq.{take-all, getD-drop}
+use lib.ListN.{length, take, drop, length-set}
+use lib.Seq.{take-all}
 use Rattle.image.specs.Image.{serialsAt, fourAt}
 use Rattle.image.proofs.tables.read_serials.Statement.{statement}
 use Rattle.image.proofs.tables.read_serials.Tie as tie

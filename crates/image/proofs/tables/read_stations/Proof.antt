@@ -1,6 +1,6 @@
 -- Reading the stations: each turn takes one more, every fifth byte.
 use Prim.Native.Nat.{_≤_, _-_, _*_, _+_}
-use mathlib.Core.Path.{_≡_, refl, sym, _∙_}
+use mathlib.Core.Path.{_≡_, sym, _∙_}
 use native.Mathlib.Numerals.{add-one}
 use native.Mathlib.Omega.{arith}
 use borrow.Author.Needs.{needs}

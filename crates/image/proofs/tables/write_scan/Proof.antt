@@ -1,9 +1,7 @@
 -- Writing a scan: the serial behind the station.
-use mathlib.Core.Path.{_≡_}
-use mathlib.Core.List.{[], _∷_, _++_}
+use mathlib.Core.List.{[], _∷_}
 use Prim.Native.Nat.{_+_}
 use native.Mathlib.Omega.{arith}
-use lib.ListN.{length}
 use Rattle.image.specs.Image.{four}
 use Rattle.image.proofs.Writing.{then}
 use borrow.Author.Needs.{needs}
