@@ -19,7 +19,7 @@ use Rattle.form.specs.Form.{lacking, held, paired, messageFields, messag
 use Rattle.rules.proofs.Each.{each-both, each-same, build, board-build, take-build, all-build}
 use Rattle.rules.proofs.Forms.{length-pairs, height-back, length-window}
 
--- ---- a height that is stored again, and the pairs that are counted again
+-- ---- a height within its limit, by its byte
 
 pub height-in : (x : ℕ) → eqb x 255 || leb x 15 ≡ leb (heightOf x) 16
 height-in x = go (eqb x 255)
