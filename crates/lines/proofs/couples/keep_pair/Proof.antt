@@ -1,8 +1,8 @@
 -- `keep_pair` meets its contract: its test is the definition's.
 use borrow.Author.Needs.{needs}
 use borrow.Author.Tests.{lt-ltb, le-ltb}
-use Rattle.lines.proofs.keep_pair.Statement.{statement}
-use Rattle.lines.proofs.keep_pair.Tie as tie
+use Rattle.lines.proofs.couples.keep_pair.Statement.{statement}
+use Rattle.lines.proofs.couples.keep_pair.Tie as tie
 
 returns : tie.Need-returns
 returns c = rw (le-ltb (c .before .args .k) 16 (c .if1 .taken))

@@ -1,8 +1,8 @@
 -- `pair_end` meets its contract: what was found is the definition's, by cases.
 use mathlib.Core.Path.{sym, _∙_}
 use borrow.Author.Needs.{needs}
-use Rattle.lines.proofs.pair_end.Statement.{statement}
-use Rattle.lines.proofs.pair_end.Tie as tie
+use Rattle.lines.proofs.couples.pair_end.Statement.{statement}
+use Rattle.lines.proofs.couples.pair_end.Tie as tie
 
 next-place-requires : tie.Need-next-place-requires
 next-place-requires c κs = search needs

@@ -9,8 +9,8 @@ use Rattle.lines.specs.Decimal.{numberAt}
 use Rattle.lines.specs.Grammar.{stands, ends, pairIn}
 use Rattle.lines.specs.Held.{coupleOf}
 use Rattle.lines.proofs.Listing.{stands-within, ends-here, ends-not, pair-none, pair-bare, pair-half, pair-whole}
-use Rattle.lines.proofs.read_pair.Statement.{statement}
-use Rattle.lines.proofs.read_pair.Tie as tie
+use Rattle.lines.proofs.couples.read_pair.Statement.{statement}
+use Rattle.lines.proofs.couples.read_pair.Tie as tie
 
 read-number-requires : tie.Need-read-number-requires
 read-number-requires c κs = search needs

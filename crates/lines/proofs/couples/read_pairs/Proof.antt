@@ -10,8 +10,8 @@ use Rattle.lines.specs.Grammar.{pairsOf}
 use Rattle.lines.specs.Held.{heldPairs}
 use Rattle.lines.proofs.Splits.{Part, part}
 use Rattle.lines.proofs.Listing.{Reading, begun, bad-part, good-part, read-all, couple-some, couple-none}
-use Rattle.lines.proofs.read_pairs.Statement.{statement}
-use Rattle.lines.proofs.read_pairs.Tie as tie
+use Rattle.lines.proofs.couples.read_pairs.Statement.{statement}
+use Rattle.lines.proofs.couples.read_pairs.Tie as tie
 
 abbrev Inv-loop : tie.InvT-loop
 Inv-loop s from pairs₀ count₀ at₀ pairs count at = Reading (pairsOf (drop from s)) (parts 44 (drop at s)) count pairs × ((count ≤ at) × (at ≤ length s))

@@ -1,7 +1,7 @@
 -- `is_digit` meets its contract: below 48 the first test of the definition fails, else the second decides.
 use borrow.Author.Tests.{le-leb, lt-leb}
-use Rattle.lines.proofs.is_digit.Statement.{statement}
-use Rattle.lines.proofs.is_digit.Tie as tie
+use Rattle.lines.proofs.digits.is_digit.Statement.{statement}
+use Rattle.lines.proofs.digits.is_digit.Tie as tie
 
 returns : tie.Need-returns
 returns c = rw (lt-leb 48 (c .before .args .b) (c .if1 .taken))

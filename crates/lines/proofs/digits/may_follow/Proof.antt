@@ -2,8 +2,8 @@
 use borrow.Author.Needs.{needs}
 use borrow.Author.Tests.{le-leb, lt-leb}
 use Rattle.lines.proofs.Decimal.{digit-low}
-use Rattle.lines.proofs.may_follow.Statement.{statement}
-use Rattle.lines.proofs.may_follow.Tie as tie
+use Rattle.lines.proofs.digits.may_follow.Statement.{statement}
+use Rattle.lines.proofs.digits.may_follow.Tie as tie
 
 returns : tie.Need-returns
 returns c = rw (lt-leb 1 (c .before .args .value) (c .if1 .taken))

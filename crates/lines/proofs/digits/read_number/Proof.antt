@@ -8,8 +8,8 @@ use lib.ListN.{length, getD, drop}
 use borrow.Author.Tests.{not-true, not-false}
 use Rattle.lines.specs.Decimal.{most, isDigit, follows, onward, numberAt}
 use Rattle.lines.proofs.Decimal.{digit-low, digit-high, follows-most, number-none, number-stop, number-on, onward-none, onward-stop, onward-bad, onward-on}
-use Rattle.lines.proofs.read_number.Statement.{statement}
-use Rattle.lines.proofs.read_number.Tie as tie
+use Rattle.lines.proofs.digits.read_number.Statement.{statement}
+use Rattle.lines.proofs.digits.read_number.Tie as tie
 
 abbrev Inv-loop : tie.InvT-loop
 Inv-loop s at first value₀ end₀ value end = (numberAt s at ≡ onward (drop end s) value end) × (value ≤ most)

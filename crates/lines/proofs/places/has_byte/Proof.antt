@@ -2,8 +2,8 @@
 use borrow.Author.Needs.{needs}
 use borrow.Author.Tests.{le-ltb, lt-ltb}
 use lib.ListN.{length}
-use Rattle.lines.proofs.has_byte.Statement.{statement}
-use Rattle.lines.proofs.has_byte.Tie as tie
+use Rattle.lines.proofs.places.has_byte.Statement.{statement}
+use Rattle.lines.proofs.places.has_byte.Tie as tie
 
 returns : tie.Need-returns
 returns c = rw (le-ltb (c .before .args .at) (length (c .before .args .s .now)) (c .if1 .taken))

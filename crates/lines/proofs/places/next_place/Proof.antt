@@ -5,8 +5,8 @@ use borrow.Author.Needs.{needs}
 use lib.ListN.{length, drop}
 use Rattle.lines.specs.Splits.{next}
 use Rattle.lines.proofs.Splits.{next-here, next-on, next-none}
-use Rattle.lines.proofs.next_place.Statement.{statement}
-use Rattle.lines.proofs.next_place.Tie as tie
+use Rattle.lines.proofs.places.next_place.Statement.{statement}
+use Rattle.lines.proofs.places.next_place.Tie as tie
 
 abbrev Inv-loop : tie.InvT-loop
 Inv-loop s from x at₀ at = next x (drop from s) from ≡ next x (drop at s) at

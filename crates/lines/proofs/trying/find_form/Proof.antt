@@ -1,8 +1,8 @@
 -- `find_form` meets its contract: each form goes before those already tried, as in the table.
 use borrow.Author.Needs.{needs}
 use Rattle.lines.proofs.Forms.{before-others}
-use Rattle.lines.proofs.find_form.Statement.{statement}
-use Rattle.lines.proofs.find_form.Tie as tie
+use Rattle.lines.proofs.trying.find_form.Statement.{statement}
+use Rattle.lines.proofs.trying.find_form.Tie as tie
 
 no-form-requires : tie.Need-no-form-requires
 no-form-requires c κs = search needs

@@ -13,8 +13,8 @@ use Rattle.lines.specs.Grammar.{stands, pairsOf, Said, byForm, orElse}
 use Rattle.lines.specs.Held.{heldPairs, withPairs, marks}
 use Rattle.lines.proofs.Forms.{form-end, form-number, form-unnumbered, form-pairs, form-same, form-other, marks-number, marks-less, taken, held, or-none, or-pairs}
 use Rattle.lines.proofs.Listing.{stands-within, ends-here, ends-not}
-use Rattle.lines.proofs.try_form.Statement.{statement}
-use Rattle.lines.proofs.try_form.Tie as tie
+use Rattle.lines.proofs.trying.try_form.Statement.{statement}
+use Rattle.lines.proofs.trying.try_form.Tie as tie
 
 abbrev Inv-loop : tie.InvT-loop
 Inv-loop form k s others numbers₀ got₀ at₀ i₀ numbers got at i =

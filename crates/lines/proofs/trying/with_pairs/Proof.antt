@@ -2,8 +2,8 @@
 use mathlib.Core.Path.{sym}
 use borrow.Author.Needs.{needs}
 use borrow.Author.Tests.{not-true, not-false}
-use Rattle.lines.proofs.with_pairs.Statement.{statement}
-use Rattle.lines.proofs.with_pairs.Tie as tie
+use Rattle.lines.proofs.trying.with_pairs.Statement.{statement}
+use Rattle.lines.proofs.trying.with_pairs.Tie as tie
 
 read-pairs-requires : tie.Need-read-pairs-requires
 read-pairs-requires c κs = search needs
