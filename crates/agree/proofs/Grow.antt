@@ -1,8 +1,7 @@
 -- The board and the marks only grow, so what was chosen stays chosen.
-use mathlib.Core.Path.{_≡_}
 use mathlib.Core.Bool.{Bool, true, false, not, _&&_, _||_}
 use mathlib.Core.Logic.{_⊎_, inl, inr}
-use mathlib.Core.List.{List, [], _∷_, List·Memᴰ, List·Memᴰ·not-nil, List·Memᴰ·cases-cons}
+use mathlib.Core.List.{List, [], _∷_}
 use Prim.Native.Nat.{ℕ, zero, suc}
 use lib.Dec.{T, eqb}
 use Rattle.rules.specs.Tests.{pick, any, bit, allIn, first}
@@ -10,19 +9,12 @@ use Rattle.rules.specs.Words.{Msg, Room, State}
 use Rattle.rules.specs.Steps.{Call, Effect, stays, scans, sends, acts, hears, posts, covers, is2b, effect, put}
 use Rattle.rules.specs.Replies.{rules}
 use Rattle.rules.proofs.Sound.{or-cases, or-l, or-r, any-sound, add-keep}
+use Rattle.rules.proofs.Lists.{any-in}
 use Rattle.agree.specs.Room.{step, run}
 use Rattle.agree.specs.Agreement.{Stays, MarksGrow}
 use Rattle.agree.proofs.Link.{Sub}
 
 -- ---- tests that pass go on passing
-
-any-of : {A : Type 0} (p : A → Bool) (l : List A) (x : A) → List·Memᴰ x l → T (p x) → T (any p l)
-any-of p [] x m t = absurd (List·Memᴰ·not-nil m)
-any-of p (y ∷ ys) x m t = go (λ o. any-of p ys x o t) (List·Memᴰ·cases-cons m)
-  where
-    go : (List·Memᴰ x ys → T (any p ys)) → (x ≡ y) ⊎ List·Memᴰ x ys → T (p y || any p ys)
-    go r (inl e) = or-l (p y) (any p ys) (rw (← e) t)
-    go r (inr o) = or-r (p y) (any p ys) (r o)
 
 both : (a b c d : Bool) → (T a → T c) → (T b → T d) → T (a && b) → T (c && d)
 both true true true true f g t = tt
@@ -42,9 +34,9 @@ in-more (suc n) q f g h t = both (not (bit q n) || f n) (allIn n q f) (not (bit 
 covers-more : (ρ : Room) (qs : List ℕ) (p : ℕ → Msg → Bool) (l h : List Msg) → Sub l h → T (covers ρ qs p l) → T (covers ρ qs p h)
 covers-more ρ qs p l h sub t =
     let z = any-sound (λ q. allIn (ρ .nodes) q (λ a. any (p a) l)) qs t in
-    any-of (λ q. allIn (ρ .nodes) q (λ a. any (p a) h)) qs (z .0) (z .1)
+    any-in (λ q. allIn (ρ .nodes) q (λ a. any (p a) h)) qs (z .0) (z .1)
     (in-more (ρ .nodes) (z .0) (λ a. any (p a) l) (λ a. any (p a) h)
-    (λ a u. let y = any-sound (p a) l u in any-of (p a) h (y .0) (sub (y .0) (y .1)) (y .2)) (z .2))
+    (λ a u. let y = any-sound (p a) l u in any-in (p a) h (y .0) (sub (y .0) (y .1)) (y .2)) (z .2))
 
 -- ---- the board and the marks after an effect, a call, and calls
 

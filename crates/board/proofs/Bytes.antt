@@ -1,44 +1,24 @@
 -- A message stands on a plain board just where its bytes stand there.
 use mathlib.Core.Path.{_≡_, refl, ap, sym, _∙_}
 use mathlib.Core.Bool.{true, false, _||_}
-use mathlib.Core.List.{List, [], _∷_, _++_, append-nil}
+use mathlib.Core.List.{List, _++_, append-nil}
 use Prim.Native.Nat.{ℕ, zero, suc, _*_}
 use native.Mathlib.Omega.{arith}
-use lib.Dec.{T, eqb, eqb-refl}
+use lib.Dec.{T}
 use lib.ListN.{length, drop-of-length-le}
 use lib.Seq.{take-all}
 use Rattle.rules.specs.Tests.{allBelow, eqs}
-use Rattle.rules.specs.Words.{Pair, Msg, rawOf, samePairs, sameMsg}
+use Rattle.rules.specs.Words.{Msg, sameMsg}
 use Rattle.rules.specs.Lent.{Memory, memory, patch, window, msgOf, bytesOf, msgAt, meaning, stored, boardOf, raised, plainMsg}
 use Rattle.rules.specs.Steps.{has, post}
 use Rattle.rules.specs.declared.Message.{Message}
-use Rattle.rules.proofs.Sound.{and-l, and-r, same-msg}
+use Rattle.rules.proofs.Sound.{and-l, and-r, same-msg, same-refl}
 use Rattle.rules.proofs.Codec.{Small, msg-back, msg-long, any-last}
 use Rattle.rules.proofs.Scan.{or-swap, holds, both-ways, eqs-means, eqs-same}
+use Rattle.rules.proofs.Forms.{long-bytes}
 use Rattle.board.specs.Asked.{Plain, Own, standing}
 
-pairs-refl : (ps : List Pair) → T (samePairs ps ps)
-pairs-refl [] = tt
-pairs-refl (p ∷ ps) = rw (holds (eqb (p .0) (p .0)) (eqb-refl (p .0)), holds (eqb (p .1) (p .1)) (eqb-refl (p .1))) (pairs-refl ps)
-
--- a message is the same as itself
-pub same-self : (x : Msg) → sameMsg x x ≡ true
-same-self x = let r = rawOf x in
-    rw (
-      holds (eqb (r .kind) (r .kind)) (eqb-refl (r .kind)),
-      holds (eqb (r .row) (r .row)) (eqb-refl (r .row)),
-      holds (eqb (r .bal) (r .bal)) (eqb-refl (r .bal)),
-      holds (eqb (r .node) (r .node)) (eqb-refl (r .node)),
-      holds (eqb (r .tube) (r .tube)) (eqb-refl (r .tube)),
-      holds (eqb (r .mbal) (r .mbal)) (eqb-refl (r .mbal)),
-      holds (eqb (r .mval) (r .mval)) (eqb-refl (r .mval)),
-      holds (samePairs (r .pairs) (r .pairs)) (pairs-refl (r .pairs)),
-    )
-
 -- the bytes of a message, and the message that they are
-pub bytes-long : (x : Msg) → length (bytesOf (stored x)) ≡ 40
-bytes-long x = ap (λ (t : ℕ). suc (suc (suc (suc (suc (suc (suc (suc t)))))))) (msg-long x)
-
 pub bytes-back : (x : Msg) → msgOf (bytesOf (stored x)) ≡ stored x
 bytes-back x = rw (take-all 32 (stored x .pairs) (omega (arith, msg-long x)))
 
@@ -51,7 +31,7 @@ module _ (s : List ℕ) (x : Msg) (back : meaning (stored x) ≡ x) where
       to : eqs (window 40 k s) (bytesOf (stored x)) ≡ true → sameMsg x (meaning (msgAt s k)) ≡ true
       to e =
           let w : meaning (msgAt s k) ≡ x = ap (λ (z : List ℕ). meaning (msgOf z)) (eqs-means (window 40 k s) (bytesOf (stored x)) (rw e tt)) ∙ ap meaning (bytes-back x) ∙ back in
-          ap (sameMsg x) w ∙ same-self x
+          ap (sameMsg x) w ∙ holds (sameMsg x x) (same-refl x)
 
       from : sameMsg x (meaning (msgAt s k)) ≡ true → eqs (window 40 k s) (bytesOf (stored x)) ≡ true
       from e =
@@ -73,7 +53,7 @@ whole-patch z y p q = ap (λ (t : List ℕ). y ++ t) (drop-of-length-le z {i = l
 
 pub asked : (s z b : List ℕ) (n : ℕ) (m : Message) → Plain s n → Own m → length z ≡ 40 → b ≡ patch z 0 (bytesOf m) → standing s n b ≡ has (meaning m) (boardOf s n)
 asked s z b n m a o l e =
-    ap (standing s n) (e ∙ ap (λ (t : Message). patch z 0 (bytesOf t)) (sym o) ∙ whole-patch z (bytesOf (stored (meaning m))) l (bytes-long (meaning m)))
+    ap (standing s n) (e ∙ ap (λ (t : Message). patch z 0 (bytesOf t)) (sym o) ∙ whole-patch z (bytesOf (stored (meaning m))) l (long-bytes (meaning m)))
     ∙ has-bytes s (meaning m) (ap meaning o) n (a .plain)
 
 -- ---- for the writer

@@ -1,9 +1,8 @@
 -- A 2av's and a 2b's numbers within limits fit a byte.
-use mathlib.Core.Bool.{Bool, _&&_}
 use Prim.Native.Nat.{ℕ, _≤_, _<_}
-use lib.Dec.{T, leb, ltb, leb→le, ltb→lt}
-use Rattle.rules.specs.Words.{balIn, tubeIn, Room, m2av}
-use Rattle.rules.specs.Lent.{rowIn, limits}
+use lib.Dec.{T, leb→le, ltb→lt}
+use Rattle.rules.specs.Words.{Room, m2av}
+use Rattle.rules.specs.Lent.{limits}
 use Rattle.rules.proofs.Sound.{and-l, and-r}
 
 pub record Small (ρ : Room) (r n b v : ℕ) : Type 0 where

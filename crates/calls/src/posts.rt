@@ -1,5 +1,4 @@
 // The foreign post: any 1b, 2av or 2b within limits under a node's number, which is marked.
-ghost use mathlib.Core.Path.{_≡_};
 ghost use Rattle.rules.specs.Lent.{memory};
 ghost use Rattle.rules.specs.Steps as steps;
 ghost use Rattle.rules.specs.Replies.{answerOf, Did};

@@ -1,5 +1,4 @@
 // The calls 2av and 2b of a node.
-ghost use mathlib.Core.Path.{_≡_};
 ghost use Rattle.rules.specs.Lent.{memory};
 ghost use Rattle.rules.specs.Steps.{c2av, c2b};
 ghost use Rattle.rules.specs.Replies.{answerOf, Did};

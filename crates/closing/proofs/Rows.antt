@@ -12,9 +12,10 @@ use Rattle.rules.specs.Tests.{pick, any, keep, upTo, one}
 use Rattle.rules.specs.Words.{Room, State}
 use Rattle.rules.specs.Book.{reach, rowTube, void, entry, bookOf, stands, waitingOf, stopped}
 use Rattle.rules.specs.Laws.{entered}
-use Rattle.rules.proofs.Lists.{passed, any-same, any-up, any-next, map-append, map-next, keep-next, up-out}
+use Rattle.rules.proofs.Lists.{any-same, any-up, any-next, map-append, map-next, keep-next, up-out}
 use Rattle.rules.proofs.Book.{before, row-agreed, book-length}
 use Rattle.rules.proofs.Totals.{entered-append}
+use Rattle.rules.proofs.Scan.{holds}
 use Rattle.closing.specs.Printed.{Line, enters, repeats, waits, splits, totals, lineText, linesText, rowLine, waitingLine, splitLine, totalsLine, linesOf, closingOf}
 use Rattle.closing.specs.Given.{heldIn, Rows, Book, Scans, rowsText, waitingText}
 use Rattle.closing.proofs.Lines.{row-tube}
@@ -32,7 +33,7 @@ module _ (tubes : List ℕ) (t : ℕ) where
   unfolding heldIn
   held-here k n h e =
       let d : suc k - 1 ≡ k = omega arith in
-      passed (any (λ r. eqb (getD tubes (r - 1) 0) t) (upTo n))
+      holds (any (λ r. eqb (getD tubes (r - 1) 0) t) (upTo n))
       (any-up (λ r. eqb (getD tubes (r - 1) 0) t) n .1 (suc k, omega arith, h, rw (d, e) (eqb-refl t)))
 
 -- ---- the lines of a list

@@ -1,17 +1,13 @@
 -- Bytes written one part after another are the whole written at once.
 use mathlib.Core.Path.{_≡_, refl, sym, ap, _∙_}
-use mathlib.Core.Bool.{Bool, true, false}
 use mathlib.Core.List.{List, [], _∷_, _++_, append-assoc}
-use Prim.Native.Nat.{ℕ, zero, suc, _+_, _/_, _%_, _≤_, _<_}
+use Prim.Native.Nat.{ℕ, _+_, _≤_, _<_}
 use native.Mathlib.Nat.{add-zero}
 use native.Mathlib.Omega.{arith}
-use lib.Dec.{ltb}
 use lib.ListN.{length, take, drop, set, length-append, take-append-drop}
 use lib.Seq.{take-at, drop-at, drop-drop, length-take-le}
-use Rattle.rules.specs.Tests.{pick}
 use Rattle.rules.specs.Lent.{patch}
-use Rattle.lines.specs.Decimal.{spelt, decimal}
-use Rattle.lines.proofs.Decimal.{patch-one}
+use Rattle.rules.proofs.Area.{set-patch}
 use Rattle.closing.specs.Given.{Wrote}
 
 -- a patch right after a patch
@@ -31,7 +27,7 @@ pub wrote-none : (s : List ℕ) (at : ℕ) → Wrote s at [] at s
 wrote-none s at = record { ends = sym (add-zero at); area = sym (take-append-drop at s) }
 
 pub wrote-byte : (s : List ℕ) (at b : ℕ) → at < length s → Wrote s at (b ∷ []) (at + 1) (set s at b)
-wrote-byte s at b h = record { ends = refl; area = patch-one s at b h }
+wrote-byte s at b h = record { ends = refl; area = set-patch s at b h }
 
 -- one part more
 pub wrote-on : {s s′ s″ xs ys : List ℕ} {a b c : ℕ} → a ≤ length s → Wrote s a xs b s′ → Wrote s′ b ys c s″ → Wrote s a (xs ++ ys) c s″
@@ -40,16 +36,3 @@ wrote-on {s} {s′} {s″} {xs} {ys} {a} {b} {c} h v w =
       ends = omega (arith, v .ends, w .ends, length-append xs ys);
       area = w .area ∙ ap (λ (t : List ℕ). patch t b ys) (v .area) ∙ ap (λ (k : ℕ). patch (patch s a xs) k ys) (v .ends) ∙ patch-on s xs ys a h;
     }
-
--- a decimal has ten digits at most
-spelt-short : (k n : ℕ) → length (spelt k n) ≤ suc k
-spelt-short zero n = omega arith
-spelt-short (suc k) n = go (ltb n 10) (spelt-short k (n / 10))
-  where
-    go : (b : Bool) → length (spelt k (n / 10)) ≤ suc k → length (pick b ((48 + n) ∷ []) (spelt k (n / 10) ++ ((48 + n % 10) ∷ []))) ≤ suc (suc k)
-    go true h = omega arith
-    go false h = omega (arith, length-append (spelt k (n / 10)) ((48 + n % 10) ∷ []))
-
-pub decimal-short : (n : ℕ) → length (decimal n) ≤ 10
-unfolding decimal
-decimal-short n = spelt-short 9 n

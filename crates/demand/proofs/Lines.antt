@@ -1,14 +1,10 @@
 -- Each scanned tube of memory in form has one line.
 use mathlib.Core.Path.{_≡_, sym, subst, _∙_}
-use mathlib.Core.Bool.{Bool, _&&_}
-use Prim.Native.Nat.{ℕ, _+_, _≤_}
+use Prim.Native.Nat.{ℕ}
 use native.Mathlib.Omega.{arith}
-use borrow.Author.Tests.{eqb-true}
-use lib.Dec.{T, eqb, ltb, eqb→eq}
-use lib.ListN.{length}
-use Rattle.rules.specs.Tests.{all, allBelow, distinct, first}
-use Rattle.rules.specs.Words.{Msg, sameMsg}
-use Rattle.rules.specs.Lent.{Memory, roomOf, read, tables, limits, scanned, plainMsg, goodMsg, sameScan, houseForm, boardForm, inForm}
+use lib.Dec.{T, eqb→eq}
+use Rattle.rules.specs.Tests.{all, first}
+use Rattle.rules.specs.Lent.{Memory, roomOf, read, tables, limits, scanned, goodMsg, houseForm, boardForm}
 use Rattle.rules.specs.Laws.{OnIntake}
 use Rattle.rules.proofs.Sound.{and-l, and-r}
 use Rattle.rules.proofs.OneLine.{one-line}

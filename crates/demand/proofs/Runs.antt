@@ -1,17 +1,16 @@
 -- Runs on memory from an opening are runs of the room, so what agreement says of the room holds of memory.
 use mathlib.Core.Path.{_≡_, refl, ap, sym, subst, _∙_}
-use mathlib.Core.Bool.{Bool, true, false, not, _&&_}
+use mathlib.Core.Bool.{Bool, true, false, not}
 use mathlib.Core.List.{List, [], _∷_, _++_}
 use Prim.Native.Nat.{ℕ, _≤_}
 use native.Mathlib.Omega.{arith}
 use lib.Dec.{T}
 use Rattle.rules.specs.Tests.{pick, count, first}
-use Rattle.rules.specs.Words.{tubeIn, Room, State}
-use Rattle.rules.specs.Lent.{Memory, roomOf, rowIn, read, tables}
-use Rattle.rules.specs.Steps.{Call, ask, chosen}
+use Rattle.rules.specs.Words.{Room, State}
+use Rattle.rules.specs.Lent.{Memory, roomOf, read, tables}
+use Rattle.rules.specs.Steps.{Call, ask}
 use Rattle.rules.specs.Book.{chosenIn, Outcome, unchosen, agreed, split, isSplit, outcome, bookOf}
-use Rattle.rules.specs.Replies.{roomCounts, roomLong, fields, tubes, rules, reply, runs, openReply, opening}
-use Rattle.rules.specs.Laws.{Chosen}
+use Rattle.rules.specs.Replies.{roomCounts, roomLong, fields, tubes, reply, runs, openReply, opening}
 use Rattle.rules.proofs.Sound.{clear}
 use Rattle.rules.proofs.Outcome.{in-some-ballot, one-chosen, two-chosen}
 use Rattle.rules.proofs.Book.{grows}

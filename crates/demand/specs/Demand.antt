@@ -7,7 +7,7 @@ use lib.Dec.{T}
 use lib.ListN.{length}
 use Rattle.rules.specs.Tests.{bit, count}
 use Rattle.rules.specs.Words.{Room}
-use Rattle.rules.specs.Lent.{Memory, roomOf, read, counts, inForm}
+use Rattle.rules.specs.Lent.{Memory, roomOf, read, inForm}
 use Rattle.rules.specs.Steps.{Call, ask}
 use Rattle.rules.specs.Book.{chosenIn, bookOf, waitingOf, clerk}
 use Rattle.rules.specs.Replies.{reply, runs, openReply, opening}

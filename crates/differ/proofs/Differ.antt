@@ -1,25 +1,21 @@
 -- On a plain board two messages are the same just where their bytes are.
-use mathlib.Core.Path.{_≡_, refl, ap, sym, _∙_}
-use mathlib.Core.Bool.{Bool, true, false, not}
+use mathlib.Core.Path.{_≡_, ap, sym, _∙_}
+use mathlib.Core.Bool.{not}
 use mathlib.Core.List.{List}
 use Prim.Native.Nat.{ℕ, _<_}
 use native.Mathlib.Omega.{arith}
 use lib.Dec.{T}
 use Rattle.rules.specs.Tests.{allBelow, distinct, eqs}
-use Rattle.rules.specs.Words.{Msg, sameMsg}
-use Rattle.rules.specs.Lent.{window, msgOf, bytesOf, msgAt, meaning, stored, boardOf, plainMsg}
+use Rattle.rules.specs.Words.{sameMsg}
+use Rattle.rules.specs.Lent.{window, msgOf, msgAt, meaning, stored, boardOf, plainMsg}
 use Rattle.rules.proofs.Scan.{holds, both-ways, eqs-means, eqs-same}
 use Rattle.board.proofs.Bytes.{bytes-back, same-at}
 use Rattle.differ.specs.Differ.{newMessage}
 use Rattle.rules.proofs.Each.{each-at, each-same, board-build, distinct-build}
+use Rattle.rules.proofs.Forms.{plain-bytes}
 
 eqs-swap : (s t : List ℕ) → eqs s t ≡ eqs t s
 eqs-swap s t = both-ways (eqs s t) (eqs t s) (λ e. eqs-same t s (sym (eqs-means s t (rw e tt)))) (λ e. eqs-same s t (sym (eqs-means t s (rw e tt))))
-
--- a plain message's bytes are how its meaning is stored
-plain-bytes : (s : List ℕ) (k : ℕ) → T (plainMsg s k) → window 40 k s ≡ bytesOf (stored (meaning (msgAt s k)))
-unfolding plainMsg
-plain-bytes s k t = eqs-means (window 40 k s) (bytesOf (stored (meaning (msgAt s k)))) t
 
 plain-back : (s : List ℕ) (k : ℕ) → T (plainMsg s k) → meaning (stored (meaning (msgAt s k))) ≡ meaning (msgAt s k)
 unfolding msgAt

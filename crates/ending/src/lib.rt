@@ -39,7 +39,7 @@ pub fn write_ending(house: House, board: &[u8], cells: &[u8], heard: &[u8], out:
     if found != 0 {
         return closing::answer_line(out, 0, found, 0);
     }
-    let b = tell::book_rows(house, board);
+    let b = tell::booking::book_rows(house, board);
     let tubes = b.tubes;
     let stop = b.stop;
     let split = by_split(stop);

@@ -9,14 +9,16 @@ use lib.Dec.{T, eqb, leb, leb→le, le→leb, eqb→eq}
 use lib.ListN.{length, getD, take, drop, set}
 use lib.Seq.{take-suc, take-suc-set}
 use Rattle.rules.specs.Tests.{all}
-use Rattle.rules.specs.Words.{Pair, tubeIn, balIn}
+use Rattle.rules.specs.Words.{tubeIn, balIn}
 use Rattle.rules.specs.Lent.{pairsOf, ascend, pairsIn}
 use Rattle.rules.specs.Replies.{pairsPlain}
-use Rattle.rules.proofs.Sound.{and-l, and-r}
-use Rattle.kept.proofs.Lists.{and-two, all-more, by-no}
+use Rattle.rules.proofs.Sound.{and-l, and-r, and-two}
+use Rattle.rules.proofs.Lists.{failed}
+use Rattle.rules.proofs.Forms.{length-pairs}
+use Rattle.kept.proofs.Lists.{all-more}
 use Rattle.pairs.specs.Pairs.{passes}
 use Rattle.pairs.specs.declared.Ask.the-variants.{Limits}
-use Rattle.pairs.proofs.Arrays.{length-pairs, inside}
+use Rattle.pairs.proofs.Arrays.{inside}
 use Rattle.foreign.specs.Bytes.{byte}
 
 pub each-byte : (s : List ℕ) (i : ℕ) → T (all byte s) → i < length s → getD s i 0 ≤ 255
@@ -60,4 +62,4 @@ in-bytes s n e t =
     pairs-bytes s n (omega arith) (and-l L A (and-l (L && A) Z u)) (and-r (L && A) Z u)
 
 pub not-bytes : (s : List ℕ) (n : ℕ) → length s ≡ 32 → all byte s ≡ false → pairsIn (pairsOf n s) && pairsPlain n s ≡ false
-not-bytes s n e f = by-no (pairsIn (pairsOf n s) && pairsPlain n s) (λ t. rw f at (in-bytes s n e t))
+not-bytes s n e f = failed (pairsIn (pairsOf n s) && pairsPlain n s) (λ t. rw f at (in-bytes s n e t))

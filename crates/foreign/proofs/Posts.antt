@@ -1,10 +1,10 @@
 -- Foreign posts of every kind: what their tests say together, what they let the writers do, and what is left.
 use mathlib.Core.Path.{_≡_, refl, ap, sym, _∙_}
-use mathlib.Core.Bool.{Bool, true, _&&_}
+use mathlib.Core.Bool.{Bool, true}
 use mathlib.Core.List.{List, [], _∷_}
-use Prim.Native.Nat.{ℕ, _≤_, _<_}
+use Prim.Native.Nat.{ℕ, _≤_}
 use native.Mathlib.Omega.{arith}
-use lib.Dec.{T, leb→le, ltb→lt}
+use lib.Dec.{T, leb→le}
 use lib.ListN.{length}
 use Rattle.rules.specs.Tests.{first}
 use Rattle.rules.specs.Words.{heightOf, Room}
@@ -40,14 +40,6 @@ small-post ρ (p1b r b n x y k l) t =
 small-post ρ (p2av r b n v) t = tt
 small-post ρ (p2b r b n v) t = tt
 small-post ρ other t = tt
-
--- its node is one of the room, and stands in what is stored
-pub poster-in : (ρ : Room) (p : Post) → T (postIn ρ p) → poster p < ρ .nodes
-unfolding limits
-poster-in ρ (p1b r b n x y k l) t = let u = post-limits ρ (p1b r b n x y k l) t in search (ltb→lt, and-l, and-r) depth 9
-poster-in ρ (p2av r b n v) t = search (ltb→lt, and-l, and-r) depth 9
-poster-in ρ (p2b r b n v) t = search (ltb→lt, and-l, and-r) depth 9
-poster-in ρ other t = absurd t
 
 pub poster-stored : (p : Post) → stored (posted p) .node ≡ poster p
 unfolding stored

@@ -7,16 +7,16 @@ use native.Mathlib.Omega.{arith}
 use lib.Dec.{T, eqb, leb, ltb, leb→le, ltb→lt, eqb→eq}
 use lib.ListN.{length}
 use Rattle.rules.specs.Tests.{pick, all}
-use Rattle.rules.specs.Words.{heightOf, heightByte, balIn, tubeIn, m1b, m2av, Room}
+use Rattle.rules.specs.Words.{heightOf, balIn, m2av, Room}
 use Rattle.rules.specs.Lent.{pairsOf, pairBytes, stored, rowIn, pairsIn, limits, scanned}
 use Rattle.rules.specs.Steps.{p1b, posted}
 use Rattle.rules.specs.Replies.{pairsPlain, postIn}
 use Rattle.rules.specs.declared.Message.{Message}
 use Rattle.rules.proofs.Sound.{and-l, and-r}
 use Rattle.rules.proofs.Scan.{eqs-means}
+use Rattle.rules.proofs.Forms.{length-pairs, height-back}
 use Rattle.pairs.specs.Pairs.{passes}
 use Rattle.pairs.specs.declared.Ask.the-variants.{Scanned}
-use Rattle.pairs.proofs.Arrays.{length-pairs}
 use Rattle.foreign.specs.Bytes.{byte}
 use Rattle.foreign.proofs.Bytes.{count-in, in-bytes}
 
@@ -31,13 +31,6 @@ height-byte x h = go (eqb x 255) refl h
     go : (b : Bool) → eqb x 255 ≡ b → pick b 0 (suc x) ≤ 16 → x ≤ 255
     go true e k = let q = eqb→eq x 255 (rw e tt) in omega arith
     go false e k = omega arith
-
-byte-back : (x : ℕ) → heightByte (heightOf x) ≡ x
-byte-back x = go (eqb x 255) refl
-  where
-    go : (b : Bool) → eqb x 255 ≡ b → heightByte (pick b 0 (suc x)) ≡ x
-    go true e = sym (eqb→eq x 255 (rw e tt))
-    go false e = refl
 
 -- the parts of test 6 for a 1b
 pub parts : (ρ : Room) (r b n x y k : ℕ) (l : List ℕ)
@@ -98,4 +91,4 @@ carried r b n x y k l = record { kind = 2; row = r; bal = b; node = n; tube = 0;
 pub stored-1b : (ρ : Room) (r b n x y k : ℕ) (l : List ℕ) → Within ρ r b n x y k l → carried r b n x y k l ≡ stored (posted (p1b r b n x y k l))
 unfolding stored
 stored-1b ρ r b n x y k l w =
-    λ i. record { kind = 2; row = r; bal = b; node = n; tube = 0; mbal = sym (byte-back x) i; mval = y; count = sym (length-pairs k l) i; pairs = w .plain i }
+    λ i. record { kind = 2; row = r; bal = b; node = n; tube = 0; mbal = sym (height-back x) i; mval = y; count = sym (length-pairs k l) i; pairs = w .plain i }

@@ -1,21 +1,21 @@
 -- Heard bits stand only at 1b messages: a byte is looked at whole, beside a byte that has the bits of the 1b messages.
 use mathlib.Core.Path.{_≡_, refl, ap, sym, _∙_}
 use mathlib.Core.Bool.{Bool, true, false, not, _&&_, _||_, and-false, and-true}
-use mathlib.Core.Logic.{_⊎_, inl, inr}
+use mathlib.Core.Logic.{inl, inr}
 use mathlib.Core.List.{List, [], _∷_, _++_}
-use Prim.Native.Nat.{ℕ, zero, suc, _+_, _-_, _*_, _/_, _%_, _^_, _≤_, _<_}
+use Prim.Native.Nat.{ℕ, zero, suc, _+_, _*_, _/_, _%_, _^_, _<_}
 use native.Mathlib.Nat.{add-zero, div-one}
 use native.Mathlib.Numerals.{add-one}
 use native.Mathlib.Omega.{arith}
 use borrow.Author.Tests.{eqb-true, eq-eqb, ne-eqb, leb-true, leb-false, lt-ltb}
 use lib.Bits.{bitAnd, bitOr, and-le-l, or-zero-r}
-use lib.Dec.{eqb, leb, ltb, eqb·zero-suc, eqb·suc-zero, eqb·suc-suc}
-use lib.ListN.{length, getD, take, drop, set, length-set, replicate, getD-replicate, length-replicate}
+use lib.Dec.{eqb, leb, eqb·zero-suc, eqb·suc-zero, eqb·suc-suc}
+use lib.ListN.{length, getD, drop, set, length-set, replicate, getD-replicate, length-replicate}
 use lib.Pow.{shr-lt}
 use lib.Seq.{getD-take, getD-drop, set-getD}
 use Rattle.rules.specs.Tests.{pick, allBelow, bit, one}
 use Rattle.rules.specs.Words.{Msg, kindOf, Room}
-use Rattle.rules.specs.Lent.{msgAt, meaning, boardOf, heardAt, setBit, heardOf, is1b, is1bAt}
+use Rattle.rules.specs.Lent.{msgAt, meaning, boardOf, heardAt, setBit, is1b, is1bAt}
 use Rattle.rules.specs.declared.Message.{Message}
 use Rattle.rules.proofs.Nodes.{digit, one-digit, bit-suc, zero-bit, bit-and}
 use Rattle.rules.proofs.Codec.{or-no, length-board, heard-set}

@@ -1,31 +1,25 @@
 -- A stored cell or message is plain and good: tests on the struct's fields.
 use mathlib.Core.Path.{_≡_, refl, ap, sym, _∙_}
-use mathlib.Core.Bool.{Bool, true, false, not, _&&_, _||_, and-false}
-use mathlib.Core.List.{List, [], _∷_, _++_}
-use Prim.Native.Nat.{ℕ, zero, suc, _+_, _-_, _*_, _≤_, _<_}
+use mathlib.Core.Bool.{Bool, true, false, _&&_, _||_, and-false}
+use mathlib.Core.List.{List, [], _++_}
+use Prim.Native.Nat.{ℕ, zero, suc, _+_, _*_, _≤_}
 use native.Mathlib.Omega.{arith}
-use borrow.Author.Tests.{eqb-true, eq-eqb, ne-eqb, lt-leb}
+use borrow.Author.Tests.{eq-eqb, ne-eqb}
 use lib.Dec.{T, eqb, leb, ltb, leb→le, eqb·suc-zero, leb·suc-suc}
-use lib.ListN.{length, getD, take, drop, length-take, length-drop, take-append-drop}
+use lib.ListN.{length, getD, take, drop, length-drop, take-append-drop}
 use lib.Seq.{take-all}
-use Rattle.rules.specs.Tests.{pick, all, allBelow, eqs, fit}
-use Rattle.rules.specs.Words.{tubeIn, balIn, heightOf, heightByte, Pair, Room}
-use Rattle.rules.specs.Lent.{window, pairsOf, pairBytes, msgOf, bytesOf, msgAt, meaning, stored, boardOf, cellOf, encode, cellAt, meaningCell, storedCell, rowIn, pairsIn, limits, scanned, plainMsg, goodMsg, plainCell, goodCell, cellForm}
+use Rattle.rules.specs.Tests.{pick, all, allBelow, eqs}
+use Rattle.rules.specs.Words.{tubeIn, balIn, heightOf, heightByte, Room}
+use Rattle.rules.specs.Lent.{window, pairsOf, pairBytes, bytesOf, msgAt, meaning, stored, boardOf, encode, cellAt, meaningCell, storedCell, rowIn, pairsIn, limits, scanned, plainMsg, goodMsg, plainCell, goodCell, cellForm}
 use Rattle.rules.specs.Replies.{pairsPlain}
 use Rattle.rules.specs.declared.Message.{Message}
 use Rattle.rules.specs.declared.Cell as stored-cell
 use Rattle.rules.proofs.Sound.{and-l, and-r}
 use Rattle.form.specs.Form.{lacking, held, paired, messageFields, messageFormed, cellFormed}
 use Rattle.rules.proofs.Each.{each-both, each-same, build, board-build, take-build, all-build}
+use Rattle.rules.proofs.Forms.{length-pairs, height-back, length-window}
 
--- ---- a height that is stored again, and the pairs that are counted again
-
-height-back : (x : ℕ) → heightByte (heightOf x) ≡ x
-height-back x = go (eqb x 255) refl
-  where
-    go : (b : Bool) → eqb x 255 ≡ b → heightByte (pick b 0 (suc x)) ≡ x
-    go true e = sym (eqb-true x 255 e)
-    go false e = refl
+-- ---- a height within its limit, by its byte
 
 pub height-in : (x : ℕ) → eqb x 255 || leb x 15 ≡ leb (heightOf x) 16
 height-in x = go (eqb x 255)
@@ -33,10 +27,6 @@ height-in x = go (eqb x 255)
     go : (b : Bool) → b || leb x 15 ≡ leb (pick b 0 (suc x)) 16
     go true = refl
     go false = sym (leb·suc-suc x 15)
-
-length-pairs : (n : ℕ) (s : List ℕ) → length (pairsOf n s) ≡ n
-length-pairs zero s = refl
-length-pairs (suc n) s = ap suc (length-pairs n (drop 2 s))
 
 -- ---- the bytes of a window are those of its struct
 
@@ -47,9 +37,6 @@ whole w k e =
     ap (λ (t : List ℕ). build (λ i. getD w i 0) k ++ t) (take-all 32 (drop k w) l)
     ∙ ap (λ (t : List ℕ). t ++ drop k w) (sym (take-build w k h))
     ∙ take-append-drop k w
-
-window-long : (w k : ℕ) (s : List ℕ) → w * k + w ≤ length s → length (window w k s) ≡ w
-window-long w k s h = simp (length-take, length-drop) (omega arith)
 
 -- ---- cells
 
@@ -85,14 +72,14 @@ unfolding plainCell
 cell-formed t s k h =
     let w = window 36 k s in
     ap (λ (b : Bool). b && goodCell t (meaningCell (cellAt s k)))
-    (ap (λ (z : List ℕ). eqs z (encode (storedCell (meaningCell (cellAt s k))))) (sym (whole w 4 (window-long 36 k s h))) ∙ same-cell (cellAt s k))
+    (ap (λ (z : List ℕ). eqs z (encode (storedCell (meaningCell (cellAt s k))))) (sym (whole w 4 (length-window 36 k s h))) ∙ same-cell (cellAt s k))
 
 -- ---- messages
 
 -- the bytes of the message numbered k
 pub msg-bytes : (s : List ℕ) (k : ℕ) → 40 * k + 40 ≤ length s → bytesOf (msgAt s k) ≡ window 40 k s
 unfolding msgAt
-msg-bytes s k h = whole (window 40 k s) 8 (window-long 40 k s h)
+msg-bytes s k h = whole (window 40 k s) 8 (length-window 40 k s h)
 
 -- fields that a kind lacks, and no pairs
 bare : (x y c : ℕ) (l : List ℕ) (t : ℕ) (g : Bool)

@@ -1,7 +1,7 @@
 -- A frame: what its bytes are read as, which call its number asks for, all that this call does, and the reply's bytes.
 use mathlib.Core.Path.{_≡_}
 use mathlib.Core.List.{List, [], _∷_, _++_}
-use Prim.Native.Nat.{ℕ, zero, suc, _+_, _*_}
+use Prim.Native.Nat.{ℕ, zero, suc, _*_}
 use lib.Dec.{eqb, leb}
 use lib.ListN.{getD, take, drop}
 use Rattle.rules.specs.Tests.{pick}

@@ -5,7 +5,7 @@ use Prim.Native.Nat.{ℕ, zero, suc, _+_, _*_, _≤_, _<_}
 use native.Mathlib.Numerals.{add-one}
 use native.Mathlib.Omega.{arith}
 use lib.ListN.{length, take, drop, set, length-append, take-append-drop}
-use lib.Seq.{paste, set-split, drop-drop, take-all, take-at, drop-at, length-take-le, take-suc-set, getD-drop}
+use lib.Seq.{paste, drop-drop, take-all, take-at, drop-at, length-take-le, take-suc-set, getD-drop}
 use Rattle.rules.specs.Lent.{patch}
 use Rattle.rules.specs.declared.House.{House}
 use Rattle.image.specs.Image.{scans, image, fourAt}
@@ -13,10 +13,6 @@ use Rattle.image.specs.Image.{scans, image, fourAt}
 -- nothing written
 pub none-yet : (s : List ℕ) (at : ℕ) → s ≡ patch s at []
 none-yet s at = sym (take-append-drop at s)
-
--- one byte
-pub one-byte : (s : List ℕ) (at x : ℕ) → at < length s → set s at x ≡ patch s at (x ∷ [])
-one-byte s at x h = rw (set-split s at x h, drop-drop 1 at s, add-one)
 
 -- a whole table
 pub whole : (s p : List ℕ) (at n : ℕ) → length p ≡ n → paste s at p n ≡ patch s at p

@@ -2,21 +2,17 @@
 use mathlib.Core.Path.{_≡_, refl, ap, sym, _∙_}
 use mathlib.Core.Bool.{Bool, true, false, _&&_, _||_}
 use mathlib.Core.List.{List, [], _∷_, _++_, append-assoc}
-use Prim.Native.Nat.{ℕ, zero, suc, _+_, _-_, _≤_, _<_}
+use Prim.Native.Nat.{ℕ, zero, suc, _+_, _-_, _<_}
 use native.Mathlib.Nat.{add-zero, add-suc}
 use native.Mathlib.Numerals.{add-one}
 use native.Mathlib.Omega.{arith}
 use borrow.Author.Tests.{le-leb}
 use lib.Dec.{eqb, leb, leb·suc-suc}
-use lib.ListN.{length, getD, length-append}
-use Rattle.rules.specs.Tests.{pick, any}
+use lib.ListN.{length, getD}
+use Rattle.rules.specs.Tests.{pick}
 use Rattle.rules.specs.Lent.{intakeOf}
 use Rattle.rules.specs.Steps.{scannedIn, tubeFor}
-use Rattle.rules.proofs.Codec.{any-last}
-
-pub length-intake : (a b : List ℕ) (n : ℕ) → length (intakeOf a b n) ≡ n
-length-intake a b zero = refl
-length-intake a b (suc n) = length-append (intakeOf a b n) ((getD a n 0, getD b n 0) ∷ []) ∙ omega (arith, length-intake a b n)
+use Rattle.rules.proofs.Codec.{any-last, length-scans}
 
 -- one scan more that is another
 pub scanned-more : (a b : List ℕ) (i x y : ℕ) → scannedIn (intakeOf a b i) x y ≡ false → (eqb x (getD a i 0) && eqb y (getD b i 0)) ≡ false
@@ -54,7 +50,7 @@ tube-here a b i n x y l e h =
     let w : n ≡ suc i + (n - suc i) = omega arith in
     let z = more a b i (n - suc i) in
     ap (λ (k : ℕ). tubeFor (intakeOf a b k) x y) w ∙ ap (λ (t : List (ℕ × ℕ)). tubeFor t x y) (z .1)
-    ∙ tube-met (intakeOf a b i) (z .0) (getD a i 0, getD b i 0) x y e h ∙ ap suc (length-intake a b i)
+    ∙ tube-met (intakeOf a b i) (z .0) (getD a i 0, getD b i 0) x y e h ∙ ap suc (length-scans a b i)
 
 -- a scan is known exactly when its tube is not the next one
 pub known-tube : (l : List (ℕ × ℕ)) (x y : ℕ) → scannedIn l x y ≡ leb (tubeFor l x y) (length l)

@@ -11,8 +11,8 @@ use Rattle.rules.specs.Tests.{pick, all}
 use Rattle.rules.specs.Words.{balIn, tubeIn, Pair, Msg, m1a, m1c, m2av, m2b, Cell, Room, m1b}
 use Rattle.rules.specs.Lent.{below, ascend, pairsIn, limits, scanned, goodMsg, goodCell}
 use Rattle.rules.specs.Steps.{without}
-use Rattle.rules.proofs.Sound.{and-l, and-r, or-cases, or-l, or-r}
-use Rattle.kept.proofs.Lists.{and-two, all-last, all-more}
+use Rattle.rules.proofs.Sound.{and-l, and-r, or-cases, or-l, or-r, and-two}
+use Rattle.kept.proofs.Lists.{all-last, all-more}
 
 -- ---- pairs that ascend
 

@@ -8,9 +8,9 @@ use Rattle.rules.specs.Words.{balIn, Msg, m1a, m1c, m2av, m2b, Room}
 use Rattle.rules.specs.Lent.{Memory, roomOf, rowIn, read, Typed, limits, scanned, goodMsg}
 use Rattle.rules.specs.Steps.{Post, p1b, p2av, p2b, other, Call, scan, c1a, c1b, c1c, c2av, c2b, hear, foreign, ask, book, without, told, posted, poster, effect, write}
 use Rattle.rules.specs.Replies.{postIn, fields, tubes, reply}
-use Rattle.rules.proofs.Sound.{and-l, and-r}
+use Rattle.rules.proofs.Sound.{and-l, and-r, and-two}
 use Rattle.kept.proofs.Ready.{Form, Passed, passed, cell-good, length-intake, at-row, at-2, post-limits, ready}
-use Rattle.kept.proofs.Lists.{and-two, all-last}
+use Rattle.kept.proofs.Lists.{all-last}
 use Rattle.kept.proofs.Cells.{On, CellOk, parts, whole, all-without, up, pairs-2av}
 use Rattle.kept.proofs.Keep.{Good, kept}
 
@@ -34,7 +34,7 @@ module _ (m : Memory) where
   good-told r n b t p = search (and-two, and-l, and-r, t, p .vbal, p .val, p .tube, p .pairs, p .on) depth 9
 
 -- a foreign post is under a node of the room
-poster-in : (ρ : Room) (p : Post) → T (postIn ρ p) → poster p < ρ .nodes
+pub poster-in : (ρ : Room) (p : Post) → T (postIn ρ p) → poster p < ρ .nodes
 unfolding limits
 poster-in ρ (p1b r b n x y k l) t = let u = post-limits ρ (p1b r b n x y k l) t in search (ltb→lt, and-l, and-r) depth 9
 poster-in ρ (p2av r b n v) t = search (ltb→lt, and-l, and-r) depth 9

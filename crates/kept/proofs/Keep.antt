@@ -15,11 +15,13 @@ use Rattle.rules.specs.Tests.{all, allBelow, distinct, eqs, first}
 use Rattle.rules.specs.Words.{Msg, sameMsg, Cell, Room}
 use Rattle.rules.specs.Lent.{Memory, window, patch, bytesOf, stored, boardOf, encode, cellAt, meaningCell, storedCell, flatten, place, heardAt, setBit, house, marked, roomOf, read, tables, plainMsg, goodMsg, plainCell, goodCell, cellForm, is1bAt, sameScan, houseForm, boardForm, cellsForm, bitForm, heardForm}
 use Rattle.rules.specs.Steps.{has, scannedIn, Effect, stays, scans, sends, acts, hears, posts, post, writeCell, write}
-use Rattle.rules.proofs.Sound.{and-l, and-r, or-cases, or-l, or-r}
+use Rattle.rules.proofs.Sound.{and-l, and-r, or-cases, or-l, or-r, and-two}
 use Rattle.rules.proofs.Area.{patch-same, patch-below, patch-above, cell-put, cell-kept}
 use Rattle.rules.proofs.Codec.{msg-back, msg-long, length-fit, board-grows, At, place-in, order, heard-set, intake-grows, msg-put, msg-kept}
-use Rattle.kept.proofs.Sim.{Sized, Sendable, Ready, length-bytes, length-cell, added, entered, post-by, scan-by, room-for, post-sized, post-room}
-use Rattle.kept.proofs.Lists.{and-two, all-below, below-all, all-last, all-more, distinct-last, eqs-refl, same-flip, scan-flip, is1b-last}
+use Rattle.rules.proofs.Forms.{eqs-same, long-bytes, long-cell}
+use Rattle.rules.proofs.Spare.{room-post}
+use Rattle.kept.proofs.Sim.{Sized, Sendable, Ready, added, entered, post-by, scan-by, room-for, post-sized}
+use Rattle.kept.proofs.Lists.{all-below, below-all, all-last, all-more, distinct-last, same-flip, scan-flip, is1b-last}
 use Rattle.kept.proofs.Cells.{good-suc, cell-suc}
 use Rattle.kept.proofs.Ready.{Form}
 
@@ -76,7 +78,7 @@ module _ (m : Memory) (z : Sized m) (f : Form m) (x : Msg) (s : Sendable m x) (g
 
     plain-new : T (plainMsg (m′ .board) n)
     unfolding plainMsg
-    plain-new = rw (patch-same (m .board) (bytesOf (stored x)) (40 * n) 40 (length-bytes x) room′, msg-put (m .board) (stored x) n (msg-long x) room′, msg-back x (s .small)) (eqs-refl (bytesOf (stored x)))
+    plain-new = rw (patch-same (m .board) (bytesOf (stored x)) (40 * n) 40 (long-bytes x) room′, msg-put (m .board) (stored x) n (msg-long x) room′, msg-back x (s .small)) (eqs-same (bytesOf (stored x)))
 
     board′ : T (boardForm m′)
     board′ = let p = board-parts m (f .board) in board-whole m′ (record {
@@ -127,15 +129,15 @@ module _ (m : Memory) (z : Sized m) (f : Form m) (r n : ℕ) (c : Cell) (p : At 
   here′ : T (cellForm (m .house .tubes) s′ k)
   unfolding plainCell
   here′ = and-two (plainCell s′ k) (goodCell (m .house .tubes) (meaningCell (cellAt s′ k)))
-      (subst (λ (w : List ℕ). T (eqs w (encode (storedCell (meaningCell (cellAt s′ k)))))) (sym (patch-same (m .cells) (encode (storedCell c)) (36 * k) 36 (length-cell c) fits′))
-      (subst (λ (w : Cell). T (eqs (encode (storedCell c)) (encode (storedCell w)))) (sym (ap meaningCell put′ ∙ back)) (eqs-refl (encode (storedCell c)))))
+      (subst (λ (w : List ℕ). T (eqs w (encode (storedCell (meaningCell (cellAt s′ k)))))) (sym (patch-same (m .cells) (encode (storedCell c)) (36 * k) 36 (long-cell c) fits′))
+      (subst (λ (w : Cell). T (eqs (encode (storedCell c)) (encode (storedCell w)))) (sym (ap meaningCell put′ ∙ back)) (eqs-same (encode (storedCell c)))))
       (subst (λ (w : Cell). T (goodCell (m .house .tubes) w)) (sym (ap meaningCell put′ ∙ back)) g)
 
   there′ : (j : ℕ) → ¬ (j ≡ k) → cellForm (m .house .tubes) s′ j ≡ cellForm (m .house .tubes) (m .cells) j
   unfolding plainCell
   there′ j d =
-      let a = cell-kept (m .cells) (encode (storedCell c)) k j (length-cell c) fits′ d in
-      let b = window-kept (m .cells) (encode (storedCell c)) k j (length-cell c) fits′ d in
+      let a = cell-kept (m .cells) (encode (storedCell c)) k j (long-cell c) fits′ d in
+      let b = window-kept (m .cells) (encode (storedCell c)) k j (long-cell c) fits′ d in
       λ i. eqs (b i) (encode (storedCell (meaningCell (a i)))) && goodCell (m .house .tubes) (meaningCell (a i))
 
   pub cell-form : Form (writeCell m r n c)
@@ -233,7 +235,7 @@ kept m (scans a b) z f r g = scan-by Form m a b f (λ e. scan-form m a b z f (r 
 kept m (sends x) z f r g = post-form m z f x r g
 kept m (acts x q n c) z f r g =
     cell-form (post m x) (post-sized m z x (r .0)) (post-form m z f x (r .0) (g .0)) q n c
-    (subst (λ (ρ : Room). At ρ q n) (sym (post-room m x)) (r .1 .0)) (r .1 .1) (subst (λ (k : ℕ). T (goodCell k c)) (sym (post-tubes m x)) (g .1))
+    (subst (λ (ρ : Room). At ρ q n) (sym (room-post m x)) (r .1 .0)) (r .1 .1) (subst (λ (k : ℕ). T (goodCell k c)) (sym (post-tubes m x)) (g .1))
 kept m (hears n k) z f r g = hear-form m n k z f (r .0) (r .1) g
 kept m (posts x n) z f r g =
-    mark-form (post m x) n (post-form m z f x r (g .0)) (subst (λ (ρ : Room). n < ρ .nodes) (sym (post-room m x)) (g .1))
+    mark-form (post m x) n (post-form m z f x r (g .0)) (subst (λ (ρ : Room). n < ρ .nodes) (sym (room-post m x)) (g .1))

@@ -1,20 +1,17 @@
 -- Tests over lists: what passes of each passes of all, and the other way round.
 use mathlib.Core.Path.{_≡_, refl, sym, subst}
-use mathlib.Core.Bool.{Bool, true, false, not, _&&_, _||_}
+use mathlib.Core.Bool.{Bool, true, false, not, _||_}
 use mathlib.Core.List.{List, [], _∷_, _++_}
 use Prim.Native.Nat.{ℕ, zero, suc, _<_}
 use native.Mathlib.Decide.{ℕ-discrete}
 use native.Mathlib.Omega.{arith}
 use lib.Dec.{T, eqb, eqb→eq, eqb-refl}
-use Rattle.rules.specs.Tests.{any, all, allBelow, distinct, eqs}
-use Rattle.rules.specs.Words.{Pair, Msg, rawOf, samePairs, sameMsg}
+use Rattle.rules.specs.Tests.{any, all, allBelow, distinct}
+use Rattle.rules.specs.Words.{Msg, sameMsg}
 use Rattle.rules.specs.Lent.{is1bAt, sameScan}
-use Rattle.rules.proofs.Sound.{and-l, and-r, same-msg}
+use Rattle.rules.proofs.Sound.{and-l, and-r, same-msg, and-two, same-refl}
 use Rattle.rules.proofs.Codec.{any-last, or-no}
-
-pub and-two : (a b : Bool) → T a → T b → T (a && b)
-and-two true b s t = t
-and-two false b s t = absurd s
+use Rattle.rules.proofs.Lists.{failed}
 
 pub all-below : (p : ℕ → Bool) (n : ℕ) → T (allBelow p n) → (k : ℕ) → k < n → T (p k)
 all-below p zero t k l = absurd (omega arith)
@@ -52,31 +49,11 @@ module _ {A : Type 0} (same : A → A → Bool) (flip : (x y : A) → same x y �
       and-two (not (any (same y) (l ++ (x ∷ [])))) (distinct same (l ++ (x ∷ []))) (any-end y x l (and-l (not (any (same y) l)) (distinct same l) t) (f .0))
       (distinct-last l x (and-r (not (any (same y) l)) (distinct same l) t) (f .1))
 
-pub eqs-refl : (l : List ℕ) → T (eqs l l)
-eqs-refl [] = tt
-eqs-refl (x ∷ l) = and-two (eqb x x) (eqs l l) (eqb-refl x) (eqs-refl l)
-
-pairs-refl : (l : List Pair) → T (samePairs l l)
-pairs-refl [] = tt
-pairs-refl (p ∷ l) = and-two (eqb (p .0) (p .0) && eqb (p .1) (p .1)) (samePairs l l) (and-two (eqb (p .0) (p .0)) (eqb (p .1) (p .1)) (eqb-refl (p .0)) (eqb-refl (p .1))) (pairs-refl l)
-
-seven : (a b c d e f g h : Bool) → T a → T b → T c → T d → T e → T f → T g → T h → T (a && b && c && d && e && f && g && h)
-seven true true true true true true true true p q r s t u v w = tt
-
-pub same-refl : (x : Msg) → T (sameMsg x x)
-same-refl x = let r = rawOf x in
-    seven (eqb (r .kind) (r .kind)) (eqb (r .row) (r .row)) (eqb (r .bal) (r .bal)) (eqb (r .node) (r .node)) (eqb (r .tube) (r .tube)) (eqb (r .mbal) (r .mbal)) (eqb (r .mval) (r .mval)) (samePairs (r .pairs) (r .pairs))
-    (eqb-refl (r .kind)) (eqb-refl (r .row)) (eqb-refl (r .bal)) (eqb-refl (r .node)) (eqb-refl (r .tube)) (eqb-refl (r .mbal)) (eqb-refl (r .mval)) (pairs-refl (r .pairs))
-
-pub by-no : (b : Bool) → (T b → ⊥) → b ≡ false
-by-no true h = absurd (h tt)
-by-no false h = refl
-
 pub same-flip : (x y : Msg) → sameMsg x y ≡ false → sameMsg y x ≡ false
-same-flip x y e = by-no (sameMsg y x) (λ t. subst T e (subst (λ (w : Msg). T (sameMsg x w)) (sym (same-msg y x t)) (same-refl x)))
+same-flip x y e = failed (sameMsg y x) (λ t. subst T e (subst (λ (w : Msg). T (sameMsg x w)) (sym (same-msg y x t)) (same-refl x)))
 
 pub scan-flip : (p q : ℕ × ℕ) → sameScan p q ≡ false → sameScan q p ≡ false
-scan-flip p q e = by-no (sameScan q p) (λ t.
+scan-flip p q e = failed (sameScan q p) (λ t.
     let u = eqb→eq (q .0) (p .0) (and-l (eqb (q .0) (p .0)) (eqb (q .1) (p .1)) t) in
     let v = eqb→eq (q .1) (p .1) (and-r (eqb (q .0) (p .0)) (eqb (q .1) (p .1)) t) in
     subst T e (and-two (eqb (p .0) (q .0)) (eqb (p .1) (q .1)) (rw u (eqb-refl (p .0))) (rw v (eqb-refl (p .1)))))

@@ -3,25 +3,25 @@ use mathlib.Core.Path.{_≡_, refl, ap, sym, subst, fun-ext}
 use mathlib.Core.Bool.{Bool, true, false, not, _&&_, _||_}
 use mathlib.Core.List.{List, [], _∷_, _++_, append-assoc}
 use Prim.Native.Nat.{ℕ, zero, suc, _+_, _*_, _/_, _%_, _^_, _≤_, _<_}
-use native.Mathlib.Nat.{zero-div}
 use native.Mathlib.Omega.{arith}
 use borrow.Author.Tests.{eq-eqb, ltb-true}
 use lib.Dec.{T, eqb, ltb, leb→le, le→leb, lt→ltb}
 use lib.ListN.{length, getD, take, drop}
 use lib.Pow.{pow-pos}
 use lib.Seq.{drop-append-add, take-at}
-use Rattle.rules.specs.Tests.{pick, allBelow, eqs, many, bit, first}
+use Rattle.rules.specs.Tests.{pick, allBelow, eqs, many, first}
 use Rattle.rules.specs.Words.{fresh, Room}
 use Rattle.rules.specs.Lent.{Memory, cellOf, encode, cellAt, meaningCell, storedCell, place, heardAt, roomOf, inRoom, read, tables, counts, long, plainCell, goodCell, cellForm, houseForm, boardForm, cellsForm, bitForm, heardForm, is1bAt}
 use Rattle.rules.specs.Replies.{roomCounts, roomLong, openReply, houseOf, opened, opening}
-use Rattle.rules.proofs.Sound.{and-l, and-r, clear, Clear}
+use Rattle.rules.proofs.Sound.{and-l, and-r, clear, Clear, and-two}
 use Rattle.rules.proofs.Area.{length-patch}
 use Rattle.rules.proofs.Codec.{length-fit, take-fit, at-in, place-in}
 use Rattle.rules.proofs.Spare.{length-many}
+use Rattle.rules.proofs.Nodes.{zero-bit}
 use Rattle.agree.specs.Room.{blank}
 use Rattle.kept.specs.Kept.{Begun}
 use Rattle.kept.proofs.Ready.{Form, drop-test}
-use Rattle.kept.proofs.Lists.{and-two, below-all}
+use Rattle.kept.proofs.Lists.{below-all}
 use Rattle.kept.proofs.Stay.{in-form}
 
 -- ---- lists that opening writes
@@ -37,9 +37,6 @@ zeros : (t : List ℕ) (n i : ℕ) → i < n → getD (many n (0 ∷ []) ++ t) i
 zeros t zero i h = absurd (omega arith)
 zeros t (suc n) zero h = refl
 zeros t (suc n) (suc i) h = zeros t n i (omega arith)
-
-no-bit : (j : ℕ) → bit 0 j ≡ false
-no-bit j = rw (zero-div (2 ^ j))
 
 -- ---- opening
 
@@ -76,10 +73,10 @@ module _ (ρ : Room) (m : Memory) (e : openReply ρ m ≡ 0) where
 
   unheard : (n k : ℕ) → n < ρ .nodes → k < 1024 → heardAt (m′ .heard) n k ≡ false
   unfolding heardAt
-  unheard n k a b = rw (zeros (drop (length (many (128 * ρ .nodes) (0 ∷ []))) (m .heard)) (128 * ρ .nodes) (128 * n + k / 8) (omega arith)) (no-bit (k % 8))
+  unheard n k a b = rw (zeros (drop (length (many (128 * ρ .nodes) (0 ∷ []))) (m .heard)) (128 * ρ .nodes) (128 * n + k / 8) (omega arith)) (zero-bit (k % 8))
 
   reads : read m′ ≡ blank
-  reads = λ i. record { board = []; cells = fun-ext (λ r. fun-ext (λ n. cells r n (inRoom ρ r n) refl)) i; heard = fun-ext (λ n. fun-ext (λ k. heard n k (ltb n (ρ .nodes)) refl (ltb k 1024) refl)) i; marks = fun-ext no-bit i; intake = [] }
+  reads = λ i. record { board = []; cells = fun-ext (λ r. fun-ext (λ n. cells r n (inRoom ρ r n) refl)) i; heard = fun-ext (λ n. fun-ext (λ k. heard n k (ltb n (ρ .nodes)) refl (ltb k 1024) refl)) i; marks = fun-ext zero-bit i; intake = [] }
     where
       cells : (r n : ℕ) (b : Bool) → inRoom ρ r n ≡ b → pick b (meaningCell (cellAt (m′ .cells) (place (ρ .rows) r n))) fresh ≡ fresh
       cells r n true e = let p = at-in ρ r n (rw e tt) in

@@ -1,20 +1,21 @@
 -- What an accepted call tells: memory is sized and in form, every test passed, and the effect can be carried out.
-use mathlib.Core.Path.{_≡_, refl, _∙_}
+use mathlib.Core.Path.{_≡_}
 use mathlib.Core.Bool.{Bool, not, true, false, _&&_}
 use mathlib.Core.Logic.{_⊎_, inl, inr}
 use mathlib.Core.List.{List, [], _∷_}
-use Prim.Native.Nat.{ℕ, zero, suc, _*_, _≤_, _<_}
+use Prim.Native.Nat.{ℕ, _*_, _<_}
 use native.Mathlib.Omega.{arith}
 use lib.Dec.{T, eqb, lt→ltb, ltb, leb→le, ltb→lt}
-use lib.ListN.{length, getD, length-append}
+use lib.ListN.{length, length-append}
 use Rattle.rules.specs.Tests.{pick, all, first}
-use Rattle.rules.specs.Words.{balIn, tubeIn, Msg, m1a, m1b, m1c, m2av, m2b, Room, State}
-use Rattle.rules.specs.Lent.{Memory, boardOf, cellAt, meaningCell, place, intakeOf, roomOf, rowIn, read, Typed, counts, long, limits, plainCell, goodCell, houseForm, boardForm, cellForm, cellsForm, heardForm, inForm}
+use Rattle.rules.specs.Words.{balIn, tubeIn, Msg, m1a, m1c, m2av, m2b, Room, State}
+use Rattle.rules.specs.Lent.{Memory, boardOf, cellAt, meaningCell, place, roomOf, rowIn, read, Typed, counts, long, limits, plainCell, goodCell, houseForm, boardForm, cellForm, cellsForm, heardForm, inForm}
 use Rattle.rules.specs.Steps.{Post, p1b, p2av, p2b, other, Call, scan, c1a, c1b, c1c, c2av, c2b, hear, foreign, ask, book, has, fits, scannedIn, without, told, posted, effect}
 use Rattle.rules.specs.Replies.{pairsPlain, postIn, fields, tubes, needs, rules, areas, tests, reply}
-use Rattle.rules.proofs.Sound.{and-l, and-r, or-cases, clear, Clear}
-use Rattle.rules.proofs.Codec.{Small, cell-back, length-board, At, in-at, place-in}
-use Rattle.kept.proofs.Lists.{and-two, all-more, all-below}
+use Rattle.rules.proofs.Sound.{and-l, and-r, or-cases, clear, Clear, and-two}
+use Rattle.rules.proofs.Codec.{Small, cell-back, length-board, At, in-at, place-in, length-scans}
+use Rattle.rules.proofs.Forms.{small}
+use Rattle.kept.proofs.Lists.{all-more, all-below}
 use Rattle.kept.proofs.Cells.{fine}
 use Rattle.kept.proofs.Sim.{Sized, Sendable, Ready}
 
@@ -50,10 +51,6 @@ cell-good m r n f p =
     let k = place (h .rows) r n in
     let t = all-below (cellForm (h .tubes) (m .cells)) (h .nodes * h .rows) (f .cells) k (place-in (h .nodes) (h .rows) r n (p .low) (p .high) (p .node)) in
     rw (in-at (roomOf h) r n p) (and-r (plainCell (m .cells) k) (goodCell (h .tubes) (meaningCell (cellAt (m .cells) k))) t)
-
-length-scans : (a b : List ℕ) (n : ℕ) → length (intakeOf a b n) ≡ n
-length-scans a b zero = refl
-length-scans a b (suc n) = length-append (intakeOf a b n) ((getD a n 0, getD b n 0) ∷ []) ∙ omega (arith, length-scans a b n)
 
 -- as many scans as tubes
 pub length-intake : (m : Memory) → length (read m .intake) ≡ m .house .tubes
@@ -138,17 +135,6 @@ at-2 ρ r n b v t =
     let p = at-row ρ r n b (and-two A N (and-l A (N && tubeIn v) t) (and-l N (tubeIn v) q)) in
     (p .0, p .1, and-r N (tubeIn v) q)
 
-small-of : (ρ : Room) (x : Msg) → T (limits ρ x) → Small x
-unfolding limits
-small-of ρ (m1a r b) t = tt
-small-of ρ (m1b r b n x y l) t =
-    let a : x ≤ 16 = search (leb→le, and-l, and-r) depth 9 in
-    let d : length l ≤ 16 = search (leb→le, and-l, and-r) depth 9 in
-    (omega arith, d)
-small-of ρ (m1c r b v) t = tt
-small-of ρ (m2av r b n v) t = tt
-small-of ρ (m2b r b n v) t = tt
-
 -- what a foreign post puts is within limits
 pub post-limits : (ρ : Room) (p : Post) → T (postIn ρ p) → T (limits ρ (posted p))
 post-limits ρ (p1b r b n x y k l) t = and-l (limits ρ (posted (p1b r b n x y k l))) (pairsPlain k l) t
@@ -187,6 +173,6 @@ ready m (hear n k) p =
     let u = ltb→lt n (m .house .nodes) (and-l (ltb n (m .house .nodes)) (ltb k B) (p .fields)) in
     let v = ltb→lt k B (and-r (ltb n (m .house .nodes)) (ltb k B) (p .fields)) in
     (u, omega (arith, length-board (m .board) (m .house .count), p .size .count, p .size .capacity))
-ready m (foreign p) q = sendable m (posted p) (small-of (roomOf (m .house)) (posted p) (post-limits (roomOf (m .house)) p (q .fields))) (q .needs .0)
+ready m (foreign p) q = sendable m (posted p) (small (roomOf (m .house)) (posted p) (post-limits (roomOf (m .house)) p (q .fields))) (q .needs .0)
 ready m (ask r) p = tt
 ready m (book p q) r = tt

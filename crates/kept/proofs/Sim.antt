@@ -8,11 +8,13 @@ use lib.Dec.{eqb}
 use lib.ListN.{length, set}
 use Rattle.rules.specs.Tests.{pick, bit}
 use Rattle.rules.specs.Words.{Msg, Cell, Room, State}
-use Rattle.rules.specs.Lent.{Memory, patch, bytesOf, stored, boardOf, flatten, encode, meaningCell, storedCell, house, raised, marked, roomOf, read}
+use Rattle.rules.specs.Lent.{Memory, patch, bytesOf, stored, boardOf, meaningCell, storedCell, house, raised, marked, roomOf, read}
 use Rattle.rules.specs.Steps.{has, scannedIn, Effect, stays, scans, sends, acts, hears, posts, send, withCell, withMark, put, post, writeCell, write}
 use Rattle.rules.proofs.Nodes.{mark-bit}
 use Rattle.rules.proofs.Area.{length-patch}
-use Rattle.rules.proofs.Codec.{Small, length-fit, msg-long, board-grows, At, cells-set, heard-set, intake-grows}
+use Rattle.rules.proofs.Codec.{Small, board-grows, At, cells-set, heard-set, intake-grows}
+use Rattle.rules.proofs.Forms.{long-bytes}
+use Rattle.rules.proofs.Spare.{room-post}
 
 -- ---- what is needed of memory, and of an effect
 
@@ -37,14 +39,6 @@ Ready m (sends x) = Sendable m x
 Ready m (acts x r n c) = Sendable m x × (At (roomOf (m .house)) r n × (meaningCell (storedCell c) ≡ c))
 Ready m (hears n k) = (n < m .house .nodes) × (k < 1024)
 Ready m (posts x n) = Sendable m x
-
--- the bytes of a stored message
-pub length-bytes : (x : Msg) → length (bytesOf (stored x)) ≡ 40
-length-bytes x = ap (λ (t : ℕ). suc (suc (suc (suc (suc (suc (suc (suc t)))))))) (msg-long x)
-
--- and of a stored cell
-pub length-cell : (c : Cell) → length (encode (storedCell c)) ≡ 36
-length-cell c = ap (λ (t : ℕ). suc (suc (suc (suc t)))) (length-fit 32 (flatten (c .pairs)))
 
 -- memory with a message after the last, and memory with a tube after the last
 abbrev pub added : Memory → Msg → Memory
@@ -80,9 +74,6 @@ scan-by P m a b f g = go (scannedIn (read m .intake) a b) refl
     go true e = f
     go false e = g e
 
-pub post-room : (m : Memory) (x : Msg) → roomOf (post m x .house) ≡ roomOf (m .house)
-post-room m x = post-by (λ n. roomOf (n .house) ≡ roomOf (m .house)) m x refl (λ e. refl)
-
 module _ (m : Memory) (z : Sized m) where
   abbrev B : List Msg
   B = boardOf (m .board) (m .house .count)
@@ -102,7 +93,7 @@ module _ (m : Memory) (z : Sized m) where
 
     -- the board stays as long as it was
     pub added-long : has x B ≡ false → length (added m x .board) ≡ length (m .board)
-    added-long e = let h = room-for e in length-patch (m .board) (bytesOf (stored x)) (40 * m .house .count) (omega (arith, length-bytes x))
+    added-long e = let h = room-for e in length-patch (m .board) (bytesOf (stored x)) (40 * m .house .count) (omega (arith, long-bytes x))
 
     pub post-sized : Sized (post m x)
     post-sized = post-by Sized m x z (λ e. let h = f .place e in let l = added-long e in
@@ -125,7 +116,7 @@ sim m (scans a b) z h = go (scannedIn (read m .intake) a b) refl
     go false e = let l = h e in λ i. record { board = read m .board; cells = read m .cells; heard = read m .heard; marks = read m .marks; intake = intake-grows (m .house .stations) (m .house .serials) (m .house .tubes) a b (omega (arith, z .stations)) (omega (arith, z .serials)) i }
 sim m (sends x) z h = post-sim m z x h
 sim m (acts x r n c) z h =
-    cell-sim (post m x) (post-sized m z x (h .0)) r n c (subst (λ (ρ : Room). At ρ r n) (sym (post-room m x)) (h .1 .0)) (h .1 .1)
+    cell-sim (post m x) (post-sized m z x (h .0)) r n c (subst (λ (ρ : Room). At ρ r n) (sym (room-post m x)) (h .1 .0)) (h .1 .1)
     ∙ ap (λ (s : State). withCell s r n c) (post-sim m z x (h .0))
 sim m (hears n k) z h = λ i. record { board = read m .board; cells = read m .cells; heard = heard-set (roomOf (m .house)) (m .heard) n k (h .0) (h .1) (z .heard) i; marks = read m .marks; intake = read m .intake }
 sim m (posts x n) z h = mark-sim (post m x) n ∙ ap (λ (s : State). withMark s n) (post-sim m z x h)

@@ -13,13 +13,14 @@ use Rattle.rules.specs.Lent.{Memory, encode, storedCell, place, setBit, house, 
 use Rattle.rules.specs.declared.House.{House}
 use Rattle.rules.specs.Steps.{Call, Effect, stays, scans, sends, acts, hears, posts, effect, put, post, writeCell, write}
 use Rattle.rules.specs.Replies.{reply, change, after}
-use Rattle.rules.proofs.Sound.{and-l, and-r}
+use Rattle.rules.proofs.Sound.{and-l, and-r, and-two}
 use Rattle.rules.proofs.Area.{length-patch}
 use Rattle.rules.proofs.Codec.{At, place-in}
+use Rattle.rules.proofs.Forms.{long-cell}
+use Rattle.rules.proofs.Spare.{room-post}
 use Rattle.kept.specs.Kept.{Whole}
-use Rattle.kept.proofs.Sim.{Sized, Sendable, Ready, length-cell, added, entered, post-by, scan-by, added-long, post-sized, post-room, sim}
+use Rattle.kept.proofs.Sim.{Sized, Sendable, Ready, added, entered, post-by, scan-by, added-long, post-sized, sim}
 use Rattle.kept.proofs.Ready.{Form, passed, ready}
-use Rattle.kept.proofs.Lists.{and-two}
 use Rattle.kept.proofs.Good.{accepted-form}
 
 -- ---- a call that is refused, and one that is not
@@ -53,10 +54,10 @@ room-write : (m : Memory) (e : Effect) → Same m (write m e)
 unfolding write
 room-write m stays = refl
 room-write m (scans a b) = scan-by (Same m) m a b refl (λ e. refl)
-room-write m (sends x) = post-room m x
-room-write m (acts x r n c) = post-room m x
+room-write m (sends x) = room-post m x
+room-write m (acts x r n c) = room-post m x
 room-write m (hears n k) = refl
-room-write m (posts x n) = post-room m x
+room-write m (posts x n) = room-post m x
 
 pub same-room : (m : Memory) (c : Call) → roomOf (after m c .house) ≡ roomOf (m .house)
 same-room m c = after-by (Same m) m c refl (λ e. room-write m (effect (read m) c))
@@ -123,9 +124,9 @@ write-gated m (acts x q n c) z r g =
     let p = post m x in
     let h = post-gated m x z (r .0) g in
     let y = post-sized m z x (r .0) in
-    let a = subst (λ (ρ : Room). At ρ q n) (sym (post-room m x)) (r .1 .0) in
+    let a = subst (λ (ρ : Room). At ρ q n) (sym (room-post m x)) (r .1 .0) in
     let k = place-in (p .house .nodes) (p .house .rows) q n (a .low) (a .high) (a .node) in
-    let l = length-cell c in record {
+    let l = long-cell c in record {
       counts = h .counts;
       long = long-with p (writeCell p q n c) refl refl refl refl (length-patch (p .cells) (encode (storedCell c)) (36 * place (p .house .rows) q n) (omega (arith, y .cells))) refl (h .long);
     }

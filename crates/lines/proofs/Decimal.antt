@@ -8,7 +8,7 @@ use native.Mathlib.Numerals.{add-one}
 use native.Mathlib.Omega.{arith}
 use lib.Dec.{T, leb, ltb, leb→le}
 use lib.ListN.{length, getD, take, drop, set, length-append, drop-of-length-le}
-use lib.Seq.{drop-cons, drop-drop, set-split, set-at, length-take-le, drop-append-seam}
+use lib.Seq.{drop-cons, drop-drop, set-at, length-take-le, drop-append-seam}
 use borrow.Author.Tests.{lt-ltb, le-ltb, le-leb, ltb-true, ltb-false}
 use Rattle.rules.specs.Tests.{pick}
 use Rattle.rules.specs.Lent.{patch}
@@ -86,11 +86,8 @@ pub decimal-long : (n : ℕ) → length (decimal n) ≤ 10
 unfolding decimal
 decimal-long n = spelt-long 9 n
 
--- a byte stored, and a byte stored after a patch
+-- a byte stored after a patch
 module _ (s : List ℕ) (at b : ℕ) where
-  pub patch-one : at < length s → set s at b ≡ patch s at (b ∷ [])
-  patch-one h = set-split s at b h ∙ rw (drop-drop 1 at s, add-one)
-
   pub patch-more : (xs : List ℕ) → at + length xs < length s → set (patch s at xs) (at + length xs) b ≡ patch s at (xs ++ (b ∷ []))
   patch-more xs h =
       let next : at + (length xs + 1) ≡ suc (at + length xs) = omega arith in

@@ -1,11 +1,11 @@
 -- An area that is filled from its front, part after part.
-use mathlib.Core.Path.{_≡_, refl, ap, sym, _∙_}
-use mathlib.Core.List.{List, [], _∷_, _++_, append-assoc, append-nil}
-use Prim.Native.Nat.{ℕ, zero, suc, _+_, _*_, _<_}
+use mathlib.Core.Path.{_≡_, ap, sym, _∙_}
+use mathlib.Core.List.{List, _++_, append-assoc, append-nil}
+use Prim.Native.Nat.{ℕ, zero, suc, _+_, _*_}
 use native.Mathlib.Nat.{mul-comm}
 use native.Mathlib.Numerals.{add-one}
-use lib.ListN.{length, take, drop, set, length-append}
-use lib.Seq.{take-at, drop-at, drop-drop, set-split}
+use lib.ListN.{length, drop, length-append}
+use lib.Seq.{take-at, drop-at, drop-drop}
 use Rattle.rules.specs.Tests.{many}
 use Rattle.rules.specs.Lent.{patch}
 use Rattle.rules.proofs.Spare.{length-many}
@@ -28,10 +28,3 @@ pub filled-more : (s t w : List ℕ) (k n : ℕ) → length w ≡ n → t ≡ pa
 filled-more s t w k n l e =
     ap (λ (x : List ℕ). patch x (n * k) w) e ∙ next s (many k w) w (n * k) (length-many k w ∙ ap (λ (j : ℕ). k * j) l ∙ mul-comm k n)
     ∙ ap (λ (x : List ℕ). patch s 0 x) (sym (ap (λ (j : ℕ). many j w) (add-one k) ∙ many-last k w))
-
-pub filled-none : (s w : List ℕ) → s ≡ patch s 0 (many 0 w)
-filled-none s w = refl
-
--- one byte stored is a part of one byte
-pub set-patch : (s : List ℕ) (k v : ℕ) → k < length s → set s k v ≡ patch s k (v ∷ [])
-set-patch s k v h = set-split s k v h ∙ ap (λ (t : List ℕ). take k s ++ (v ∷ t)) (sym (drop-drop 1 k s ∙ ap (λ (j : ℕ). drop j s) (add-one k)))

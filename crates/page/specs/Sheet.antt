@@ -1,5 +1,5 @@
 -- "The sheet program": what is kept between lines, what each line does and prints, and all that a sheet prints.
-use mathlib.Core.Bool.{Bool, _&&_}
+use mathlib.Core.Bool.{_&&_}
 use mathlib.Core.List.{List, [], _∷_, _++_}
 use Prim.Native.Nat.{ℕ, suc}
 use lib.Dec.{eqb, leb, ltb}

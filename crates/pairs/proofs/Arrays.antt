@@ -15,18 +15,11 @@ use Rattle.rules.specs.Steps.{without}
 use Rattle.rules.specs.Replies.{pairsPlain}
 use Rattle.rules.proofs.Codec.{pairs-back}
 use Rattle.rules.proofs.Scan.{holds, below-here, below-same, pairAt, pairs-last, pairs-below, all-none}
+use Rattle.rules.proofs.Forms.{length-pairs}
 use Rattle.pairs.specs.Pairs.{passes, Packed}
 use Rattle.pairs.specs.declared.Ask.the-variants.{Limits}
 
-pub length-pairs : (n : ℕ) (s : List ℕ) → length (pairsOf n s) ≡ n
-length-pairs zero s = refl
-length-pairs (suc n) s = ap suc (length-pairs n (drop 2 s))
-
 -- ---- each pair passes
-
-not-not : (b : Bool) → not (not b) ≡ b
-not-not true = refl
-not-not false = refl
 
 pub each-below : (p : Pair → Bool) (s : List ℕ) (n : ℕ) → all p (pairsOf n s) ≡ not (anyBelow (λ k. not (p (pairAt s k))) n)
 each-below p s n = all-none p (pairsOf n s) ∙ ap not (pairs-below (λ q. not (p q)) s n)

@@ -1,12 +1,12 @@
 -- What stands in an area after a part of it was written: the new part, and every part beside it as it was.
 use mathlib.Core.Path.{_≡_, refl, ap, sym, _∙_}
 use mathlib.Core.List.{List, [], _∷_, _++_, append-assoc}
-use Prim.Native.Nat.{ℕ, suc, _+_, _-_, _*_, _≤_, _<_}
+use Prim.Native.Nat.{ℕ, _+_, _-_, _*_, _≤_, _<_}
 use native.Mathlib.Nat.{zero-add}
 use native.Mathlib.Numerals.{add-one}
 use native.Mathlib.Omega.{arith}
 use lib.ListN.{length, take, drop, getD, set, length-drop, length-take, length-append, take-append-drop}
-use lib.Seq.{take-suc-set, take-suc, getD-drop, sets, sets-eq, paste, take-append-seam, drop-append-add, drop-append-le, drop-drop, take-all, length-take-le, drop-at, take-at, take-append-le}
+use lib.Seq.{set-split, take-suc-set, take-suc, getD-drop, sets, sets-eq, paste, take-append-seam, drop-append-add, drop-append-le, drop-drop, take-all, length-take-le, drop-at, take-at, take-append-le}
 use mathlib.Core.Logic.{_⊎_, inl, inr, ⊎-elim}
 use mathlib.Core.Bool.{Bool, true, false}
 use borrow.Author.Tests.{ltb-true, ltb-false}
@@ -20,6 +20,10 @@ pub copy-more : (out s : List ℕ) (at i : ℕ) → i < length out → at + i < 
 copy-more out s at i h k e =
     let l : i < length (drop at s) = simp length-drop (omega arith) in
     rw (add-one, take-suc-set out i (getD s (at + i) 0) h, take-suc (drop at s) i 0 l, getD-drop, e)
+
+-- one byte stored is a part of one byte
+pub set-patch : (s : List ℕ) (k v : ℕ) → k < length s → set s k v ≡ patch s k (v ∷ [])
+set-patch s k v h = rw (set-split s k v h, drop-drop 1 k s, add-one)
 
 -- a run of stores at the front, and then a copy after it, is one patch
 pub head-tail : (s h p : List ℕ) (n : ℕ) → length p ≡ n → length h + n ≤ length s

@@ -9,14 +9,15 @@ use native.Mathlib.Decide.{ℕ-discrete}
 use native.Mathlib.Omega.{arith}
 use borrow.Author.Tests.{eqb-true, eqb-false, ne-eqb}
 use lib.Dec.{T, eqb, leb, leb→le}
-use lib.ListN.{length, getD, length-map}
+use lib.ListN.{length, length-map}
 use Rattle.rules.specs.Tests.{pick, any, upTo}
 use Rattle.rules.specs.Words.{Room, State}
 use Rattle.rules.specs.Book.{Outcome, unchosen, agreed, split, outcome, tubeOf, isAgreed, leading, reach, rowTube, void, entry, bookOf, stands, waitingOf, stopped, clerk}
 use Rattle.rules.specs.Laws.{OneClerk, Grows, Reaches, BookLength, EntrySmall, BookSmall, WaitingClimbs, WaitingScanned, WaitingLength, StopsEnded, StopsUnchosen, StopsSplit}
 use Rattle.rules.proofs.Sound.{and-r}
-use Rattle.rules.proofs.Lists.{passed, failed, any-same, any-next, map-append, map-same, map-at, onwards, up-more, up-onwards, length-up, up-out, keep-out, length-keep, climbs-keep, climbs-up, leading-le, leading-pass, leading-stop, leading-most}
+use Rattle.rules.proofs.Lists.{failed, any-same, any-next, map-append, map-same, onwards, up-more, up-onwards, length-up, up-out, keep-out, length-keep, climbs-keep, climbs-up, leading-le, leading-pass, leading-stop, leading-most}
 use Rattle.rules.proofs.Outcome.{one-chosen}
+use Rattle.rules.proofs.Scan.{holds, turn}
 
 -- ---- the rows of the book
 
@@ -81,18 +82,7 @@ pub book-length : BookLength
 unfolding bookOf
 book-length ρ s = length-map (upTo (reach ρ s)) (entry ρ s) ∙ length-up (reach ρ s)
 
-pub book-at : (ρ : Room) (s : State) (i : ℕ) → i < reach ρ s → getD (bookOf ρ s) i 0 ≡ entry ρ s (suc i)
-unfolding bookOf
-book-at ρ s i h = map-at (entry ρ s) 0 (reach ρ s) i h
-
 -- ---- one clerk
-
-either-way : (a b : ℕ) → eqb a b ≡ eqb b a
-either-way a b = go (ℕ-discrete a b)
-  where
-    go : Dec (a ≡ b) → eqb a b ≡ eqb b a
-    go (yes e) = rw e
-    go (no e) = ne-eqb a b e ∙ sym (ne-eqb b a (λ d. e (sym d)))
 
 -- the tubes in the clerk's hand are those of the rows 1 to k
 abbrev Hand : Room → State → List ℕ → ℕ → Type 0
@@ -106,7 +96,7 @@ hand-void ρ s written k h e v = h v ∙ go (ℕ-discrete (rowTube ρ s (suc k))
     go (no d) = rw (ne-eqb (rowTube ρ s (suc k)) v d) (sym (or-false (before ρ s k v)))
 
 hand-more : (ρ : Room) (s : State) (written : List ℕ) (k : ℕ) → Hand ρ s written k → Hand ρ s (rowTube ρ s (suc k) ∷ written) (suc k)
-hand-more ρ s written k h v = rw (h v, before-more, either-way v (rowTube ρ s (suc k))) (or-comm (eqb (rowTube ρ s (suc k)) v) (before ρ s k v))
+hand-more ρ s written k h v = rw (h v, before-more, turn v (rowTube ρ s (suc k))) (or-comm (eqb (rowTube ρ s (suc k)) v) (before ρ s k v))
 
 -- from row k + 1 on, where m more rows of n pass
 onward : (ρ : Room) (s : State) (n k m : ℕ) (written : List ℕ) → m ≤ n → ((r : ℕ) → k < r → r ≤ k + m → T (passes ρ s r))
@@ -119,7 +109,7 @@ onward ρ s (suc n) k zero written h f g w =
     let d : ¬ (T (passes ρ s (suc k))) = rw add-zero at c in
     rw (failed (passes ρ s (suc k)) d)
 onward ρ s (suc n) k (suc m) written h f g w =
-    rw (passed (passes ρ s (suc k)) (f (suc k) (omega arith) (omega arith)), entry-next ρ s k, w (rowTube ρ s (suc k)))
+    rw (holds (passes ρ s (suc k)) (f (suc k) (omega arith) (omega arith)), entry-next ρ s k, w (rowTube ρ s (suc k)))
     (go (before ρ s k (rowTube ρ s (suc k))) refl
     (λ written′. onward ρ s n (suc k) m written′ (omega arith) (λ r a b. f r (omega arith) (omega arith))
     (λ l. let e : suc k + m ≡ k + suc m = omega arith in rw e (g (omega arith)))))

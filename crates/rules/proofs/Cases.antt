@@ -1,6 +1,6 @@
 -- The table of cases is right: one claim that the checker computes.
 use mathlib.Core.Path.{_≡_, refl}
-use mathlib.Core.Bool.{Bool, true, false}
+use mathlib.Core.Bool.{true}
 use Rattle.rules.specs.Tests.{all, count}
 use Rattle.rules.specs.Lent.{msgAt, meaning, stored, heardAt, counts, long, limits, scanned, plainMsg, goodMsg, plainCell, goodCell, houseForm, boardForm, cellsForm, heardForm, inForm}
 use Rattle.rules.specs.Steps.{post, write}

@@ -1,27 +1,25 @@
 -- The layouts: what was put is read, and the rest stays.
 use mathlib.Core.Path.{_≡_, refl, ap, sym, _∙_, fun-ext}
-use mathlib.Core.Bool.{Bool, true, false, not, _&&_, _||_, and-false}
+use mathlib.Core.Bool.{Bool, true, false, _&&_, _||_, and-false}
 use mathlib.Core.Logic.{_⊎_, inl, inr, ⊎-elim}
 use mathlib.Core.List.{List, [], _∷_, _++_}
-use Prim.Native.Nat.{ℕ, zero, suc, _+_, _-_, _*_, _/_, _%_, _^_, _≤_, _<_}
-use native.Mathlib.Nat.{mul-le-mul-right, add-zero, add-suc}
-use native.Mathlib.Numerals.{add-one}
+use Prim.Native.Nat.{ℕ, zero, suc, _+_, _*_, _/_, _%_, _^_, _≤_, _<_}
+use native.Mathlib.Nat.{mul-le-mul-right}
 use native.Mathlib.Decide.{ℕ-discrete}
 use native.Mathlib.Omega.{arith}
 use borrow.Author.Tests.{eqb-true, eqb-false, ne-eqb, eq-eqb, le-leb, lt-ltb, ltb-true, ltb-false}
 use lib.Bits.{bitOr}
-use lib.Dec.{T, eqb, leb, ltb, leb→le, ltb→lt, eqb→eq, eqb-refl}
-use lib.ListN.{length, getD, take, drop, set, length-append}
+use lib.Dec.{T, eqb, leb, ltb, leb→le, ltb→lt}
+use lib.ListN.{length, getD, take, set, length-append}
 use lib.Seq.{take-all, getD-set-same, getD-set-other}
-use Rattle.rules.specs.Words.{heightOf, heightByte, Pair, Msg, m1a, m1b, m1c, m2av, m2b, Cell, fresh, Room, sameMsg, balIn, tubeIn}
-use Rattle.rules.specs.Tests.{pick, any, all, bit, fit}
-use Rattle.rules.specs.Steps.{setCell, has}
+use Rattle.rules.specs.Words.{heightOf, heightByte, Pair, Msg, m1a, m1b, m1c, m2av, m2b, Cell, fresh, Room}
+use Rattle.rules.specs.Tests.{pick, any, bit, fit}
+use Rattle.rules.specs.Steps.{setCell}
 use Rattle.rules.proofs.Sound.{and-l, and-r}
 use Rattle.rules.proofs.Nodes.{mark-bit}
-use Rattle.rules.specs.declared.Cell as stored-cell
 use Rattle.rules.proofs.Area.{patch-same, patch-below, cell-put, cell-kept}
 use Rattle.rules.specs.declared.Message.{Message}
-use Rattle.rules.specs.Lent.{patch, pairsOf, flatten, msgOf, bytesOf, msgAt, meaning, stored, line, boardOf, encode, cellAt, meaningCell, storedCell, place, heardAt, setBit, intakeOf, rowIn, inRoom, cellsOf, heardOf, limits, pairsIn, ascend}
+use Rattle.rules.specs.Lent.{patch, pairsOf, flatten, msgOf, bytesOf, msgAt, meaning, stored, boardOf, encode, cellAt, meaningCell, storedCell, place, heardAt, setBit, intakeOf, rowIn, inRoom, cellsOf, heardOf}
 
 -- ---- structs and what they mean
 
@@ -95,7 +93,11 @@ pub length-board : (s : List ℕ) (n : ℕ) → length (boardOf s n) ≡ n
 length-board s zero = refl
 length-board s (suc n) = length-append (boardOf s n) (meaning (msgAt s n) ∷ []) ∙ omega (arith, length-board s n)
 
--- ---- scans: `any` over the decoded board, one message more
+pub length-scans : (a b : List ℕ) (n : ℕ) → length (intakeOf a b n) ≡ n
+length-scans a b zero = refl
+length-scans a b (suc n) = length-append (intakeOf a b n) ((getD a n 0, getD b n 0) ∷ []) ∙ omega (arith, length-scans a b n)
+
+-- ---- `any` with one more at the end
 
 pub or-no : (b : Bool) → b || false ≡ b
 or-no true = refl
@@ -108,20 +110,6 @@ any-last p (y ∷ l) x = ap (λ (b : Bool). p y || b) (any-last p l x) ∙ or-as
     or-assoc : (a b c : Bool) → a || (b || c) ≡ (a || b) || c
     or-assoc true b c = refl
     or-assoc false b c = refl
-
-pub scan-more : (p : Msg → Bool) (s : List ℕ) (i : ℕ) → any p (boardOf s i) ≡ false → p (meaning (msgAt s i)) ≡ false → any p (boardOf s (i + 1)) ≡ false
-scan-more p s i e h = rw (add-one, any-last p (boardOf s i), e, h)
-
-or-yes : (a b : Bool) → b ≡ true → a || b ≡ true
-or-yes true b e = refl
-or-yes false b e = e
-
-scan-far : (p : Msg → Bool) (s : List ℕ) (i : ℕ) → p (meaning (msgAt s i)) ≡ true → (d : ℕ) → any p (boardOf s (suc i + d)) ≡ true
-scan-far p s i h zero = rw add-zero (any-last p (boardOf s i) (meaning (msgAt s i)) ∙ or-yes (any p (boardOf s i)) (p (meaning (msgAt s i))) h)
-scan-far p s i h (suc d) = rw add-suc (any-last p (boardOf s (suc i + d)) (meaning (msgAt s (suc i + d))) ∙ rw (scan-far p s i h d))
-
-pub scan-here : (p : Msg → Bool) (s : List ℕ) (i n : ℕ) → i < n → p (meaning (msgAt s i)) ≡ true → any p (boardOf s n) ≡ true
-scan-here p s i n l h = let e : n ≡ suc i + (n - suc i) = omega arith in rw e (scan-far p s i h (n - suc i))
 
 -- ---- the cells
 
@@ -190,6 +178,10 @@ module _ (ρ : Room) (s : List ℕ) (r n : ℕ) (c : Cell) (p : At ρ r n) (fits
       go q a (yes d) (no e) = rw (ne-eqb a n e, and-false (eqb q r)) (other-cell q a (λ z. e (z .1)))
 
 -- ---- the heard bits
+
+or-yes : (a b : Bool) → b ≡ true → a || b ≡ true
+or-yes true b e = refl
+or-yes false b e = e
 
 pub heard-set : (ρ : Room) (s : List ℕ) (n k : ℕ) → n < ρ .nodes → k < 1024 → 128 * ρ .nodes ≤ length s
     → heardOf ρ (setBit s n k) ≡ (λ a j. (eqb a n && eqb j k) || heardOf ρ s a j)

@@ -7,7 +7,7 @@ use Prim.Native.Nat.{ℕ, zero, suc, _+_, _-_, _*_, _≤_, _<_}
 use native.Mathlib.Nat.{mul-suc, mul-le-mul-left, sub-zero, zero-sub, suc-sub-suc}
 use native.Mathlib.Omega.{arith}
 use borrow.Author.Tests.{lt-ltb, eqb-true}
-use lib.Dec.{T, eqb, leb, eqb→eq, eqb-refl, leb→le, leb·suc-suc, ltb, T-not}
+use lib.Dec.{T, eqb, leb, eqb-refl, leb→le, leb·suc-suc, ltb, T-not}
 use lib.ListN.{length, take, drop, length-take, length-drop, take-append-drop}
 use lib.Seq.{take-all, drop-cons}
 use Rattle.rules.specs.Tests.{pick, eqs, fit}
@@ -16,20 +16,12 @@ use Rattle.rules.specs.declared.Message.{Message}
 use Rattle.rules.specs.declared.Cell as stored-cell
 use Rattle.rules.specs.Lent.{window, patch, pairsOf, flatten, msgOf, bytesOf, msgAt, meaning, stored, line, cellOf, encode, cellAt, meaningCell, storedCell, rowIn, limits, pairsIn, plainMsg, plainCell, goodCell}
 use Rattle.rules.specs.Promises.{MsgReadsBack, CellReadsBack, BitReadsBack, MsgWritesBack, CellWritesBack, Unused, Plain, MsgForm, Within, MsgLimits, CellForm}
-use Rattle.rules.proofs.Sound.{and-l, and-r}
+use Rattle.rules.proofs.Sound.{and-l, and-r, and-two}
 use Rattle.rules.proofs.Area.{patch-below, patch-above, cell-put}
 use Rattle.rules.proofs.Codec.{Small, length-fit, msg-back, msg-long, cell-back, msg-put, or-no, order, heard-set}
+use Rattle.rules.proofs.Scan.{eqs-means}
 
 -- ---- lists that the test finds equal
-
-pub eqs-means : (s t : List ℕ) → T (eqs s t) → s ≡ t
-eqs-means [] [] e = refl
-eqs-means [] (y ∷ t) e = absurd e
-eqs-means (x ∷ s) [] e = absurd e
-eqs-means (x ∷ s) (y ∷ t) e =
-    let a = eqb→eq x y (and-l (eqb x y) (eqs s t) e) in
-    let b = eqs-means s t (and-r (eqb x y) (eqs s t) e) in
-    λ i. a i ∷ b i
 
 pub eqs-same : (l : List ℕ) → T (eqs l l)
 eqs-same [] = tt
@@ -141,7 +133,7 @@ fit-rest (suc n) (x ∷ l) = rw suc-sub-suc (fit-rest n l)
 stored-unused : (l : List Pair) → Unused (length l) (fit 32 (flatten l))
 stored-unused l = rw (length-flat l) at (fit-rest 32 (flatten l))
 
-length-pairs : (n : ℕ) (s : List ℕ) → length (pairsOf n s) ≡ n
+pub length-pairs : (n : ℕ) (s : List ℕ) → length (pairsOf n s) ≡ n
 length-pairs zero s = refl
 length-pairs (suc n) s = ap suc (length-pairs n (drop 2 s))
 
@@ -158,7 +150,7 @@ flat-back (suc n) (suc (suc w)) (x ∷ y ∷ s) l e =
     let less : suc (suc w) - suc (suc (2 * n)) ≡ w - 2 * n = omega arith in
     ap (λ (t : List ℕ). x ∷ y ∷ t) (flat-back n w s (omega arith) (rw (two, less) at e))
 
-height-back : (b : ℕ) → heightByte (heightOf b) ≡ b
+pub height-back : (b : ℕ) → heightByte (heightOf b) ≡ b
 height-back b = go (eqb b 255) refl
   where
     go : (x : Bool) → eqb b 255 ≡ x → heightByte (pick x 0 (suc b)) ≡ b
@@ -267,10 +259,6 @@ cell-form s k = (λ t. (inside t, subst (λ (c : stored-cell.Cell). Unused (c .c
         (eqs-same (window 36 k s))
 
 -- ---- the limits of a message
-
-and-two : (a b : Bool) → T a → T b → T (a && b)
-and-two true b s t = t
-and-two false b s t = absurd s
 
 or-true : (b : Bool) → b || true ≡ true
 or-true true = refl

@@ -9,26 +9,18 @@ use native.Mathlib.Decide.{ℕ-discrete}
 use native.Mathlib.Omega.{arith}
 use borrow.Author.Tests.{eqb-true, eqb-false}
 use lib.Dec.{T, eqb, ltb, ltb→lt, lt→ltb}
-use lib.ListN.{length, getD, length-append}
+use lib.ListN.{length, length-append}
 use lib.Seq.{append-snoc}
 use Rattle.rules.specs.Tests.{pick, any, anyBelow, keep, upTo}
 use Rattle.rules.specs.Book.{leading}
 use Rattle.rules.specs.Laws.{climbs}
-use Rattle.rules.proofs.Sound.{and-l, and-r, or-l, or-r, any-sound}
+use Rattle.rules.proofs.Sound.{and-l, and-r, or-l, or-r, any-sound, and-two}
 
 -- ---- a test and its truth
-
-pub passed : (b : Bool) → T b → b ≡ true
-passed true t = refl
-passed false t = absurd t
 
 pub failed : (b : Bool) → ¬ (T b) → b ≡ false
 failed true f = absurd (f tt)
 failed false f = refl
-
-pub both : (a b : Bool) → T a → T b → T (a && b)
-both true b t u = u
-both false b t u = absurd t
 
 -- ---- any
 
@@ -104,9 +96,6 @@ up-out (suc n) x m = go (up-out n x) (List·Memᴰ·append-cases (upTo n) m)
     go r (inl o) = let h = r o in omega arith
     go r (inr o) = let e = List·Memᴰ·eq-of-singleton o in omega arith
 
-pub up-mem : (n x : ℕ) → List·Memᴰ x (upTo n) ↔ ((1 ≤ x) × (x ≤ n))
-up-mem n x = (up-out n x, λ h. up-in n x (h .0) (h .1))
-
 pub any-up : (p : ℕ → Bool) (n : ℕ) → T (any p (upTo n)) ↔ ((x : ℕ) × (1 ≤ x) × (x ≤ n) × T (p x))
 any-up p n = (there, λ h. any-in p (upTo n) (h .0) (up-in n (h .0) (h .1) (h .2)) (h .3))
   where
@@ -122,14 +111,6 @@ any-next p n = any-append p (upTo n) (suc n ∷ []) ∙ ap (λ (b : Bool). any p
 
 pub map-next : {A : Type 0} (f : ℕ → A) (n : ℕ) → map f (upTo (suc n)) ≡ map f (upTo n) ++ (f (suc n) ∷ [])
 map-next f n = map-append f (upTo n) (suc n ∷ [])
-
-onwards-at : {A : Type 0} (f : ℕ → A) (d : A) (k n i : ℕ) → i < n → getD (map f (onwards k n)) i d ≡ f (suc (k + i))
-onwards-at f d k zero i h = absurd (not-suc-le-zero h)
-onwards-at f d k (suc n) zero h = rw add-zero
-onwards-at f d k (suc n) (suc i) h = onwards-at f d (suc k) n i (omega arith) ∙ ap (λ (x : ℕ). f (suc x)) (suc-add k i ∙ sym (add-suc k i))
-
-pub map-at : {A : Type 0} (f : ℕ → A) (d : A) (n i : ℕ) → i < n → getD (map f (upTo n)) i d ≡ f (suc i)
-map-at f d n i h = rw up-onwards (onwards-at f d 0 n i h ∙ ap (λ (x : ℕ). f (suc x)) (zero-add i))
 
 -- ---- keep
 
@@ -183,17 +164,7 @@ pub climbs-lower : (j k : ℕ) (l : List ℕ) → j ≤ k → T (climbs k l) →
 climbs-lower j k [] h t = tt
 climbs-lower j k (x ∷ l) h t =
     let g : k < x = ltb→lt k x (and-l (ltb k x) (climbs x l) t) in
-    both (ltb j x) (climbs x l) (lt→ltb j x (omega arith)) (and-r (ltb k x) (climbs x l) t)
-
-pub climbs-above : (k : ℕ) (l : List ℕ) (x : ℕ) → T (climbs k l) → List·Memᴰ x l → k < x
-climbs-above k [] x t m = absurd (List·Memᴰ·not-nil m)
-climbs-above k (y ∷ l) x t m =
-    let g : k < y = ltb→lt k y (and-l (ltb k y) (climbs y l) t) in
-    go g (climbs-above y l x (and-r (ltb k y) (climbs y l) t)) (List·Memᴰ·cases-cons m)
-  where
-    go : k < y → (List·Memᴰ x l → y < x) → (x ≡ y) ⊎ List·Memᴰ x l → k < x
-    go g r (inl e) = omega arith
-    go g r (inr n) = let h = r n in omega arith
+    and-two (ltb j x) (climbs x l) (lt→ltb j x (omega arith)) (and-r (ltb k x) (climbs x l) t)
 
 pub climbs-keep : (p : ℕ → Bool) (k : ℕ) (l : List ℕ) → T (climbs k l) → T (climbs k (keep p l))
 climbs-keep p k [] t = tt
@@ -206,12 +177,12 @@ climbs-keep p k (x ∷ l) t = go (p x) (climbs-keep p x l (and-r (ltb k x) (clim
     low h = omega arith
 
     go : (b : Bool) → T (climbs x (keep p l)) → T (climbs k (pick b (x ∷ keep p l) (keep p l)))
-    go true u = both (ltb k x) (climbs x (keep p l)) above u
+    go true u = and-two (ltb k x) (climbs x (keep p l)) above u
     go false u = climbs-lower k x (keep p l) (low (ltb→lt k x above)) u
 
 pub climbs-onwards : (k n : ℕ) → T (climbs k (onwards k n))
 climbs-onwards k zero = tt
-climbs-onwards k (suc n) = both (ltb k (suc k)) (climbs (suc k) (onwards (suc k) n)) (lt→ltb k (suc k) (omega arith)) (climbs-onwards (suc k) n)
+climbs-onwards k (suc n) = and-two (ltb k (suc k)) (climbs (suc k) (onwards (suc k) n)) (lt→ltb k (suc k) (omega arith)) (climbs-onwards (suc k) n)
 
 pub climbs-up : (n : ℕ) → T (climbs 0 (upTo n))
 climbs-up n = rw (up-onwards n) (climbs-onwards 0 n)

@@ -1,13 +1,13 @@
 -- The node sets as bytes: what `&`, `|` and `count_ones` do to their members.
-use mathlib.Core.Path.{_≡_, refl, sym, ap, _∙_, fun-ext}
-use mathlib.Core.Bool.{Bool, true, false, _&&_, _||_}
+use mathlib.Core.Path.{_≡_, refl, sym, ap, _∙_}
+use mathlib.Core.Bool.{Bool, false, _&&_, _||_}
 use mathlib.Core.Logic.{_⊎_, inl, inr}
-use Prim.Native.Nat.{ℕ, zero, suc, _+_, _-_, _*_, _/_, _%_, _^_, min, max, _≤_, _<_}
-use native.Mathlib.Nat.{mod-lt, div-one, pow-suc, zero-lt-suc}
+use Prim.Native.Nat.{ℕ, zero, suc, _+_, _/_, _%_, _^_, min, max, _<_}
+use native.Mathlib.Nat.{div-one}
 use native.Mathlib.Numerals.{one-add}
 use native.Mathlib.Omega.{arith}
-use lib.Dec.{T, eqb, eqb·suc-zero, eqb·zero-suc, eqb·suc-suc}
-use lib.Bits.{bitAnd, bitOr, and-step, or-step, and-shr, or-shr, and-lt}
+use lib.Dec.{eqb, eqb·suc-zero, eqb·zero-suc, eqb·suc-suc}
+use lib.Bits.{bitAnd, bitOr, and-step, or-step, and-shr, or-shr}
 use lib.Count.{ones, onesIn, ones-step}
 use lib.Pow.{shr-shr, shr-lt}
 use Rattle.rules.specs.Tests.{bit, one, count}
@@ -65,10 +65,6 @@ ones-count (suc k) x h =
     let l : x / 2 < 2 ^ k = shr-lt k 1 (rw native.Mathlib.Numerals.add-one h) in
     let b : one (bit x 0) ≡ x % 2 = rw div-one (one-digit (x % 2) (digit x)) in
     omega (arith, ones-step x, ones-count k (x / 2) l, count-low x k)
-
--- what `count_ones(p & q)` is
-pub ones-common : (k p q : ℕ) → p < 2 ^ k → q < 2 ^ k → ones (bitAnd p q) ≡ count (λ n. bit p n && bit q n) k
-ones-common k p q h l = ones-count k (bitAnd p q) (and-lt k p q h l) ∙ ap (λ (f : ℕ → Bool). count f k) (fun-ext (bit-and p q))
 
 -- a node's own bit
 pub zero-bit : (a : ℕ) → bit 0 a ≡ false

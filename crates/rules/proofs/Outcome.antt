@@ -10,8 +10,8 @@ use Rattle.rules.specs.Words.{Room, State}
 use Rattle.rules.specs.Steps.{chosen}
 use Rattle.rules.specs.Book.{chosenIn, unchosen, agreed, split, among, outcome}
 use Rattle.rules.specs.Laws.{InSomeBallot, Chosen, NoneChosen, OneChosen, TwoChosen, climbs}
-use Rattle.rules.proofs.Sound.{and-l, and-r, below-sound}
-use Rattle.rules.proofs.Lists.{both, below-in, up-in, up-out, keep-in, keep-out, climbs-up, climbs-keep}
+use Rattle.rules.proofs.Sound.{and-l, and-r, below-sound, and-two}
+use Rattle.rules.proofs.Lists.{below-in, up-in, up-out, keep-in, keep-out, climbs-up, climbs-keep}
 
 pub in-some-ballot : InSomeBallot
 unfolding chosenIn
@@ -67,7 +67,7 @@ held ρ s r v = (there, back)
     there m =
         let k = keep-out (chosenIn ρ s r) (upTo 64) v m in
         let h = up-out 64 v (k .0) in
-        (both (leb 1 v) (leb v 64) (le→leb 1 v (h .0)) (le→leb v 64 (h .1)), k .1)
+        (and-two (leb 1 v) (leb v 64) (le→leb 1 v (h .0)) (le→leb v 64 (h .1)), k .1)
 
     back : Chosen ρ s r v → List·Memᴰ v (tubes ρ s r)
     back h =

@@ -11,8 +11,8 @@ use lib.Dec.{T, eqb, eqb→eq, eqb-refl}
 use lib.ListN.{length, getD, take, drop}
 use lib.Seq.{take-suc, getD-drop}
 use Rattle.rules.specs.Tests.{any, all, anyBelow, allIn, bit, eqs}
-use Rattle.rules.specs.Words.{Pair, Msg}
-use Rattle.rules.specs.Lent.{pairsOf, msgAt, meaning, boardOf}
+use Rattle.rules.specs.Words.{Pair}
+use Rattle.rules.specs.Lent.{pairsOf}
 use Rattle.rules.proofs.Sound.{and-l, and-r}
 use Rattle.rules.proofs.Codec.{or-no, any-last}
 
@@ -69,13 +69,6 @@ take-below p l zero h = refl
 take-below p l (suc n) h =
     ap (any p) (take-suc l n 0 h) ∙ any-last p (take n l) (getD l n 0)
     ∙ rw (take-below p l n (omega arith)) (or-swap (anyBelow (λ k. p (getD l k 0)) n) (p (getD l n 0)))
-
--- the first n messages of a board
-pub board-below : (p : Msg → Bool) (s : List ℕ) (n : ℕ) → any p (boardOf s n) ≡ anyBelow (λ k. p (meaning (msgAt s k))) n
-board-below p s zero = refl
-board-below p s (suc n) =
-    any-last p (boardOf s n) (meaning (msgAt s n))
-    ∙ rw (board-below p s n) (or-swap (anyBelow (λ k. p (meaning (msgAt s k))) n) (p (meaning (msgAt s n))))
 
 -- the pair numbered k of an array
 abbrev pub pairAt : List ℕ → ℕ → Pair

@@ -1,13 +1,13 @@
 -- What the tests of the rules say when they pass.
-use mathlib.Core.Path.{_≡_, refl, sym, ap, _∙_, subst}
+use mathlib.Core.Path.{_≡_, refl, sym, ap, _∙_}
 use mathlib.Core.Bool.{Bool, true, false, not, _&&_, _||_}
 use mathlib.Core.Logic.{_⊎_, inl, inr}
 use mathlib.Core.List.{List, [], _∷_, _++_, List·Memᴰ, List·Memᴰ·head, List·Memᴰ·tail, List·Memᴰ·not-nil, List·Memᴰ·cases-cons, List·Memᴰ·append-cases, List·Memᴰ·eq-of-singleton, Memᴰ·append-left, Memᴰ·append-right}
-use Prim.Native.Nat.{ℕ, zero, suc, _+_, _≤_, _<_}
+use Prim.Native.Nat.{ℕ, zero, suc, _<_}
 use native.Mathlib.Nat.{not-suc-le-zero}
 use native.Mathlib.Decide.{ℕ-discrete}
 use native.Mathlib.Omega.{arith}
-use lib.Dec.{T, eqb, leb, ltb, leb→le, ltb→lt, eqb→eq, eqb-refl, T-not}
+use lib.Dec.{T, eqb, ltb, ltb→lt, eqb→eq, eqb-refl}
 use Rattle.rules.specs.Words.{Pair, Msg, m1a, m1b, m1c, m2av, m2b, Cell, Raw, rawOf, samePairs, sameRaw, sameMsg}
 use Rattle.rules.specs.Tests.{pick, any, all, anyBelow, bit, allIn, first}
 use Rattle.rules.specs.Steps.{has, add, setCell, without, heardFrom}
@@ -21,6 +21,10 @@ and-l false b t = t
 pub and-r : (a b : Bool) → T (a && b) → T b
 and-r true b t = t
 and-r false b t = absurd t
+
+pub and-two : (a b : Bool) → T a → T b → T (a && b)
+and-two true b s t = t
+and-two false b s t = absurd s
 
 pub or-cases : (a b : Bool) → T (a || b) → T a ⊎ T b
 or-cases true b t = inl tt
@@ -37,10 +41,6 @@ or-r false b t = t
 pub not-or : (a b : Bool) → T (not a || b) → T a → T b
 not-or true b t u = t
 not-or false b t u = absurd u
-
-pub nay : (a : Bool) → T (not a) ⊎ T a
-nay true = inr tt
-nay false = inl tt
 
 -- ---- lists and sets
 
@@ -122,6 +122,19 @@ make-raw (m2b r b n v) = refl
 
 pub same-msg : (x y : Msg) → T (sameMsg x y) → x ≡ y
 same-msg x y t = sym (make-raw x) ∙ ap (λ (z : Raw). make (z .kind) z) (same-raw (rawOf x) (rawOf y) t) ∙ make-raw y
+
+pairs-refl : (l : List Pair) → T (samePairs l l)
+pairs-refl [] = tt
+pairs-refl (p ∷ l) = and-two (eqb (p .0) (p .0) && eqb (p .1) (p .1)) (samePairs l l) (and-two (eqb (p .0) (p .0)) (eqb (p .1) (p .1)) (eqb-refl (p .0)) (eqb-refl (p .1))) (pairs-refl l)
+
+seven : (a b c d e f g h : Bool) → T a → T b → T c → T d → T e → T f → T g → T h → T (a && b && c && d && e && f && g && h)
+seven true true true true true true true true p q r s t u v w = tt
+
+-- a message is the same as itself
+pub same-refl : (x : Msg) → T (sameMsg x x)
+same-refl x = let r = rawOf x in
+    seven (eqb (r .kind) (r .kind)) (eqb (r .row) (r .row)) (eqb (r .bal) (r .bal)) (eqb (r .node) (r .node)) (eqb (r .tube) (r .tube)) (eqb (r .mbal) (r .mbal)) (eqb (r .mval) (r .mval)) (samePairs (r .pairs) (r .pairs))
+    (eqb-refl (r .kind)) (eqb-refl (r .row)) (eqb-refl (r .bal)) (eqb-refl (r .node)) (eqb-refl (r .tube)) (eqb-refl (r .mbal)) (eqb-refl (r .mval)) (pairs-refl (r .pairs))
 
 -- ---- the board
 

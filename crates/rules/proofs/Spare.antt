@@ -16,7 +16,7 @@ use Rattle.rules.specs.Words.{Msg, m1a, m1c, m2av, m2b, sameMsg, Cell, f
 use Rattle.rules.specs.Lent.{Memory, window, patch, msgOf, bytesOf, msgAt, meaning, stored, boardOf, cellOf, encode, cellAt, meaningCell, storedCell, place, heardAt, setBit, roomOf, intakeOf, house, raised, marked, rowIn, inRoom, cellsOf, heardOf, read, tables, counts, long, limits, plainMsg, goodMsg, plainCell, goodCell, cellForm, is1bAt, houseForm, boardForm, cellsForm, bitForm, heardForm, inForm, Used, used}
 use Rattle.rules.specs.Steps.{Call, scan, c1a, c1b, c1c, c2av, c2b, hear, foreign, ask, book, has, fits, scannedIn, told, posted, Effect, stays, scans, sends, acts, hears, posts, effect, post, writeCell, write}
 use Rattle.rules.specs.Book.{bookOf, waitingOf}
-use Rattle.rules.specs.Replies.{fields, tubes, needs, rules, areas, tests, reply, change, after, bare, tell, answer, rowsAfter, waitingAfter, roomCounts, openReply, houseOf, opened, opening}
+use Rattle.rules.specs.Replies.{fields, needs, rules, areas, tests, reply, change, after, bare, tell, answer, rowsAfter, waitingAfter, roomCounts, openReply, houseOf, opened, opening}
 use Rattle.rules.specs.Promises.{openTests, SpareUnread, SpareUnbooked, SpareUnopened, Spared, SpareStays, SpareStaysOpening, RoomStays}
 use Rattle.rules.specs.declared.House.{House}
 use Rattle.rules.proofs.Sound.{and-l, and-r, or-cases, Clear, clear}
@@ -24,6 +24,7 @@ use Rattle.rules.proofs.Area.{length-patch, patch-same, patch-below, pa
 use Rattle.rules.proofs.Codec.{at-in, place-in, length-board}
 use Rattle.rules.proofs.Forms.{long-bytes, long-cell}
 use Rattle.rules.proofs.Refusals.{numbered}
+use Rattle.rules.proofs.Each.{each-same}
 
 -- ---- what is read of an area lies in its used part
 
@@ -80,10 +81,6 @@ read-used m = λ i. record {
   intake = intakeOf (m .house .stations) (m .house .serials) (m .house .tubes);
 }
 
-below-same : (p q : ℕ → Bool) (n : ℕ) → ((k : ℕ) → k < n → p k ≡ q k) → allBelow p n ≡ allBelow q n
-below-same p q zero h = refl
-below-same p q (suc n) h = λ i. h n (omega arith) i && below-same p q n (λ k l. h k (omega arith)) i
-
 form-used : (m : Memory) → inForm (clean (used m)) ≡ inForm m
 unfolding inForm houseForm boardForm cellsForm heardForm plainMsg plainCell msgAt
 form-used m = λ i. houseForm m && (board i && (cells i && heard i))
@@ -92,19 +89,19 @@ form-used m = λ i. houseForm m && (board i && (cells i && heard i))
     B = ap (λ (s : State). s .board) (read-used m)
 
     plain : allBelow (plainMsg (take (40 * m .house .count) (m .board))) (m .house .count) ≡ allBelow (plainMsg (m .board)) (m .house .count)
-    plain = below-same (plainMsg (take (40 * m .house .count) (m .board))) (plainMsg (m .board)) (m .house .count)
+    plain = each-same (plainMsg (take (40 * m .house .count) (m .board))) (plainMsg (m .board)) (m .house .count)
         (λ k l. ap (λ (w : List ℕ). eqs w (bytesOf (stored (meaning (msgOf w))))) (window-used 40 k (m .house .count) (m .board) l))
 
     board : boardForm (clean (used m)) ≡ boardForm m
     board = λ i. plain i && (all (goodMsg (roomOf (m .house)) (m .house .tubes)) (B i) && distinct sameMsg (B i))
 
     cells : cellsForm (clean (used m)) ≡ cellsForm m
-    cells = below-same (cellForm (m .house .tubes) (take (36 * (m .house .nodes * m .house .rows)) (m .cells))) (cellForm (m .house .tubes) (m .cells)) (m .house .nodes * m .house .rows)
+    cells = each-same (cellForm (m .house .tubes) (take (36 * (m .house .nodes * m .house .rows)) (m .cells))) (cellForm (m .house .tubes) (m .cells)) (m .house .nodes * m .house .rows)
         (λ k l. ap (λ (w : List ℕ). eqs w (encode (storedCell (meaningCell (cellOf w)))) && goodCell (m .house .tubes) (meaningCell (cellOf w))) (window-used 36 k (m .house .nodes * m .house .rows) (m .cells) l))
 
     heard : heardForm (clean (used m)) ≡ heardForm m
-    heard = below-same (λ n. allBelow (bitForm (clean (used m)) n) 1024) (λ n. allBelow (bitForm m n) 1024) (m .house .nodes)
-        (λ n l. below-same (bitForm (clean (used m)) n) (bitForm m n) 1024
+    heard = each-same (λ n. allBelow (bitForm (clean (used m)) n) 1024) (λ n. allBelow (bitForm m n) 1024) (m .house .nodes)
+        (λ n l. each-same (bitForm (clean (used m)) n) (bitForm m n) 1024
         (λ k j i. not (bit-used (m .heard) (m .house .nodes) n k l j i) || is1bAt (B i) k))
 
 -- ---- so the tests, the answer and the change are the same
@@ -474,7 +471,7 @@ spare-stays m c = spared-write m (change m c) (inside m c)
 
 -- ---- the room stays
 
-room-post : (m : Memory) (x : Msg) → roomOf (post m x .house) ≡ roomOf (m .house)
+pub room-post : (m : Memory) (x : Msg) → roomOf (post m x .house) ≡ roomOf (m .house)
 unfolding post
 room-post m x = go (has x (boardOf (m .board) (m .house .count)))
   where

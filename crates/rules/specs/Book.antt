@@ -1,8 +1,8 @@
 -- "Chosen, book and sheet": a row's outcome, the book, the waiting tubes, why the book stopped, and one clerk's book.
-use mathlib.Core.Bool.{Bool, true, false, not, _&&_, _||_}
-use mathlib.Core.List.{List, [], _∷_, _++_, map}
-use Prim.Native.Nat.{ℕ, zero, suc, _+_, _-_}
-use lib.Dec.{eqb, leb, ltb}
+use mathlib.Core.Bool.{Bool, true, false, not, _&&_}
+use mathlib.Core.List.{List, [], _∷_, map}
+use Prim.Native.Nat.{ℕ, zero, suc, _-_}
+use lib.Dec.{eqb}
 use lib.ListN.{length}
 use Rattle.rules.specs.Tests.{pick, any, anyBelow, keep, upTo}
 use Rattle.rules.specs.Words.{Room, State}

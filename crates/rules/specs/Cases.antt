@@ -1,13 +1,12 @@
 -- "Both sides of the lines": cases 1 to 13 as one table. Each row is a whole case, from its opening and its posts.
-use mathlib.Core.Bool.{Bool, true, false, not, _&&_, _||_}
+use mathlib.Core.Bool.{Bool, _&&_}
 use mathlib.Core.List.{List, [], _∷_, _++_}
-use Prim.Native.Nat.{ℕ, zero, suc, _+_, _*_}
+use Prim.Native.Nat.{ℕ, _+_, _*_}
 use lib.Dec.{eqb}
-use lib.ListN.{length}
 use Rattle.rules.specs.Tests.{keep, upTo, eqs, fit, many}
-use Rattle.rules.specs.Words.{Room, State}
-use Rattle.rules.specs.Lent.{Memory, roomOf, read}
-use Rattle.rules.specs.Steps.{Post, p1b, p2av, p2b, other, Call, scan, c1a, c1b, c1c, c2av, c2b, hear, foreign, ask, book, known}
+use Rattle.rules.specs.Words.{Room}
+use Rattle.rules.specs.Lent.{Memory, read}
+use Rattle.rules.specs.Steps.{p1b, p2av, p2b, Call, scan, c1a, c1b, c1c, c2av, c2b, hear, foreign, known}
 use Rattle.rules.specs.Book.{bookOf, waitingOf, stopped}
 use Rattle.rules.specs.Replies.{reply, after, runs, openReply, opening, houseOf}
 

@@ -6,8 +6,8 @@ use Prim.Native.Nat.{ℕ, zero, suc, _+_, _-_, _*_, _/_, _%_, _^_}
 use lib.Bits.{bitOr}
 use lib.Dec.{eqb, leb, ltb}
 use lib.ListN.{length, getD, take, drop, set}
-use Rattle.rules.specs.Tests.{pick, any, all, allBelow, distinct, eqs, fit, bit, count, first}
-use Rattle.rules.specs.Words.{nodesIn, faultyIn, rowsIn, balIn, tubeIn, capacityIn, listIn, scanIn, heightOf, heightByte, Pair, Msg, m1a, m1b, m1c, m2av, m2b, sameMsg, Cell, fresh, Room, State}
+use Rattle.rules.specs.Tests.{pick, all, allBelow, distinct, eqs, fit, bit, count, first}
+use Rattle.rules.specs.Words.{nodesIn, faultyIn, rowsIn, balIn, tubeIn, capacityIn, listIn, heightOf, heightByte, Pair, Msg, m1a, m1b, m1c, m2av, m2b, sameMsg, Cell, fresh, Room, State}
 use Rattle.rules.specs.declared.House.{House}
 use Rattle.rules.specs.declared.Message.{Message}
 use Rattle.rules.specs.declared.Cell as stored-cell

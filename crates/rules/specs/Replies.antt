@@ -2,11 +2,11 @@
 use mathlib.Core.Path.{_≡_}
 use mathlib.Core.Bool.{Bool, true, false, not, _&&_, _||_}
 use mathlib.Core.List.{List, [], _∷_, _++_}
-use Prim.Native.Nat.{ℕ, zero, suc, _+_, _-_, _*_}
+use Prim.Native.Nat.{ℕ, suc, _*_}
 use lib.Dec.{eqb, leb, ltb}
-use lib.ListN.{length, drop}
-use Rattle.rules.specs.Tests.{pick, any, all, eqs, fit, many, first}
-use Rattle.rules.specs.Words.{nodesIn, faultyIn, rowsIn, balIn, tubeIn, capacityIn, listIn, scanIn, Msg, m1a, m1b, m1c, m2av, m2b, Cell, fresh, Room, State}
+use lib.ListN.{length}
+use Rattle.rules.specs.Tests.{pick, all, eqs, fit, many, first}
+use Rattle.rules.specs.Words.{nodesIn, faultyIn, rowsIn, balIn, capacityIn, listIn, scanIn, m1a, m1c, m2av, m2b, fresh, Room, State}
 use Rattle.rules.specs.Lent.{Memory, patch, pairsOf, pairBytes, encode, storedCell, roomOf, rowIn, read, tables, counts, long, limits, scanned, is1bAt, inForm}
 use Rattle.rules.specs.Steps.{Post, p1b, p2av, p2b, other, Call, scan, c1a, c1b, c1c, c2av, c2b, hear, foreign, ask, book, has, fits, scannedIn, tubeFor, told, without, posted, relayed, known, Effect, stays, effect, write}
 use Rattle.rules.specs.Book.{outcome, tubeOf, isSplit, bookOf, waitingOf, stopped}

@@ -1,10 +1,10 @@
 -- "The steps" and "Known safe": the calls, what each sends and changes, and the sets that relay and vote.
-use mathlib.Core.Bool.{Bool, true, false, not, _&&_, _||_}
+use mathlib.Core.Bool.{Bool, false, not, _&&_, _||_}
 use mathlib.Core.List.{List, [], _∷_, _++_}
-use Prim.Native.Nat.{ℕ, zero, suc, _+_, _*_}
+use Prim.Native.Nat.{ℕ, suc, _*_}
 use lib.Dec.{eqb, leb, ltb}
 use lib.ListN.{length, set}
-use Rattle.rules.specs.Tests.{pick, any, all, anyBelow, allIn}
+use Rattle.rules.specs.Tests.{pick, any, anyBelow, allIn}
 use Rattle.rules.specs.Words.{heightOf, Pair, Msg, m1a, m1b, m1c, m2av, m2b, sameMsg, Cell, Room, State}
 use Rattle.rules.specs.Lent.{Memory, patch, pairsOf, bytesOf, stored, boardOf, encode, storedCell, place, setBit, intakeOf, house, raised, marked}
 

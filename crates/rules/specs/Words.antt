@@ -1,9 +1,9 @@
 -- "The room and its words": what is allowed, none, messages, cells, and a room with what stands in it.
-use mathlib.Core.Bool.{Bool, true, false, not, _&&_, _||_}
-use mathlib.Core.List.{List, [], _∷_, _++_}
-use Prim.Native.Nat.{ℕ, zero, suc, _+_}
-use lib.Dec.{eqb, leb, ltb}
-use Rattle.rules.specs.Tests.{pick, any, all}
+use mathlib.Core.Bool.{Bool, true, false, _&&_}
+use mathlib.Core.List.{List, [], _∷_}
+use Prim.Native.Nat.{ℕ, zero, suc}
+use lib.Dec.{eqb, leb}
+use Rattle.rules.specs.Tests.{pick}
 
 -- ---- Thing, Allowed
 

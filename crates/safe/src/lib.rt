@@ -1,13 +1,12 @@
 // Known safe: the 1b messages that a node has heard, gathered in one pass into sets of nodes, and the search for full sets.
 ghost use mathlib.Core.Path.{_≡_};
-ghost use mathlib.Core.Bool.{_&&_};
 ghost use mathlib.Core.List.{List, [], _∷_, _++_};
 ghost use Prim.Native.Nat.{ℕ, _+_, _*_, _≤_, _<_};
 ghost use lib.ListN.{length, getD};
-ghost use Rattle.rules.specs.Tests.{pick, anyBelow, bit};
+ghost use Rattle.rules.specs.Tests.{pick, anyBelow};
 ghost use Rattle.rules.specs.Words.{Msg, heightOf};
 ghost use Rattle.rules.specs.Lent.{memory, read, roomOf, pairsOf, meaning, msgAt, boardOf, heardAt};
-ghost use Rattle.rules.specs.Steps.{low, shown, heardFrom, full, known};
+ghost use Rattle.rules.specs.Steps.{low, shown, heardFrom, known};
 ghost use Rattle.safe.specs.Safe.{says, withTeller, askAt, promise, Tells, safeAt, Ready};
 
 // What is asked of a 1b.

@@ -17,7 +17,7 @@ use Rattle.lines.specs.declared.Line.{Line}
 use Rattle.lines.specs.declared.Line.the-variants.{Heading, Step, Bad}
 use Rattle.lines.specs.declared.Parsed.{Parsed}
 use Rattle.lines.specs.Grammar.{parsed}
-use Rattle.page.specs.Sheet.{Heads, Sheet, Turn, sheetOf, turn, unread, headed, roomFor, dueNow, malformed, opens, stepped, begins, heading, takes, closes}
+use Rattle.page.specs.Sheet.{Heads, Sheet, Turn, sheetOf, turn, unread, headed, roomFor, malformed, opens, stepped, begins, heading, takes, closes}
 use Rattle.closing.specs.Printed.{closingOf}
 use Rattle.ending.proofs.Laws.{closed}
 use Rattle.session.specs.Laws.{sheetAfter, Since}

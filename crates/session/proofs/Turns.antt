@@ -1,7 +1,6 @@
 -- What a line's turn, a byte and the end of the input come to, case by case, with what was written so far.
 use mathlib.Core.Path.{_≡_, refl, sym, ap, subst, _∙_}
-use mathlib.Core.Bool.{Bool, true, false}
-use mathlib.Core.List.{List, [], _∷_, _++_}
+use mathlib.Core.List.{List, [], _++_}
 use Prim.Native.Nat.{ℕ, _+_, _-_, _≤_, _<_}
 use native.Mathlib.Nat.{zero-add}
 use native.Mathlib.Numerals.{add-one}
@@ -13,17 +12,16 @@ use borrow.Author.Tests.{eq-eqb, ne-eqb, lt-ltb, le-ltb}
 use Rattle.rules.specs.Tests.{pick}
 use Rattle.rules.specs.Lent.{Memory, patch}
 use Rattle.rules.proofs.Area.{part-patch}
-use Rattle.lines.specs.declared.Line.{Line}
 use Rattle.lines.specs.declared.Parsed.{Parsed}
 use Rattle.lines.specs.Grammar.{parsed}
 use Rattle.closing.specs.Printed.{answerText}
 use Rattle.closing.specs.Given.{Wrote}
 use Rattle.closing.proofs.Writing.{wrote-none, wrote-on}
-use Rattle.page.specs.Sheet.{Heads, Sheet, Turn, sheetOf, turn, malformed, headed, opens, stepped, begins, heading, takes, closes, ends}
+use Rattle.page.specs.Sheet.{Heads, Sheet, Turn, sheetOf, turn, malformed, headed, stepped, begins, heading, takes, closes, ends}
 use Rattle.page.specs.Held.{Started}
 use Rattle.turn.specs.Given.{Took}
-use Rattle.session.specs.Feed.{Feed, Fed, feedOf, longer, feeds, lastLine}
-use Rattle.session.specs.Held.{said, Ate, opensAndEnds}
+use Rattle.session.specs.Feed.{feedOf, longer, feeds, lastLine}
+use Rattle.session.specs.Held.{Ate, opensAndEnds}
 
 pub as-turn : {t t′ : Turn} {g : Sheet} {s s′ : List ℕ} {at e : ℕ} → t ≡ t′ → Took t′ g s at e s′ → Took t g s at e s′
 as-turn {t} {t′} {g} {s} {s′} {at} {e} p w = subst (λ (x : Turn). Took x g s at e s′) (sym p) w

@@ -1,7 +1,6 @@
 -- Whole sheets and all that they print, as one table: the session of document 01, and where its headings end.
 use mathlib.Core.List.{List, [], _∷_, _++_}
 use Prim.Native.Nat.{ℕ}
-use Rattle.rules.specs.Lent.{Memory}
 use Rattle.rules.specs.Cases.{lent, single}
 use Rattle.lines.specs.Grammar.{text}
 use Rattle.page.specs.Sheet.{sheetOf, unread}

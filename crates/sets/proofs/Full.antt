@@ -1,5 +1,5 @@
 -- A gathered set stands for the test that it was gathered by: one node more, and a full set of one is a full set of the other.
-use mathlib.Core.Path.{_≡_, refl, ap, sym, _∙_}
+use mathlib.Core.Path.{_≡_, refl, sym}
 use mathlib.Core.Bool.{Bool, true, false, _||_}
 use mathlib.Core.List.{List, [], _∷_}
 use Prim.Native.Nat.{ℕ, zero, suc, _^_, _≤_, _<_}
@@ -39,6 +39,3 @@ joined-bit set n a h = go (ltb n 8) refl
 -- the empty set, and one node more
 pub gathered-none : (p : ℕ → Bool) → ((a : ℕ) → p a ≡ false) → Gathered 0 p
 gathered-none p f a h = rw (zero-div, f a)
-
-pub gathered-more : (set n : ℕ) (p : ℕ → Bool) → Gathered set p → Gathered (joined set n) (λ a. p a || eqb a n)
-gathered-more set n p g a h = joined-bit set n a h ∙ ap (λ (b : Bool). b || eqb a n) (g a h)

@@ -1,10 +1,9 @@
 // Node sets as bytes, bit 0 for node 0: membership, one node more, the search for a full set, and how many nodes.
 ghost use mathlib.Core.Path.{_≡_};
 ghost use mathlib.Core.Bool.{not, _&&_};
-ghost use Prim.Native.Nat.{_^_, _≤_, _<_};
-ghost use lib.Dec.{ltb};
+ghost use Prim.Native.Nat.{_≤_, _<_};
 ghost use lib.ListN.{take};
-ghost use Rattle.rules.specs.Tests.{any, allIn, bit, count};
+ghost use Rattle.rules.specs.Tests.{any, allIn, bit};
 ghost use Rattle.sets.specs.Sets.{joined};
 
 pub fn in_set(set: u8, a: u8) -> bool
@@ -58,22 +57,4 @@ pub fn some_full(list: [u8; 64], listed: u8, nodes: u8, have: u8) -> bool
         k += 1;
     }
     found
-}
-
-// Whether two sets share more than f nodes.
-pub fn share(p: u8, q: u8, nodes: u8, faulty: u8) -> bool
-    requires { ⌜ (p < 2 ^ nodes) × (q < 2 ^ nodes) ⌝ }
-    ensures { λ r. ⌜ r ≡ ltb faulty (count (λ a. bit p a && bit q a) nodes) ⌝ }
-{
-    let n = u8::count_ones(p & q);
-    (faulty as u32) < n
-}
-
-// Whether a set has more than f nodes.
-pub fn strong(w: u8, nodes: u8, faulty: u8) -> bool
-    requires { ⌜ w < 2 ^ nodes ⌝ }
-    ensures { λ r. ⌜ r ≡ ltb faulty (count (bit w) nodes) ⌝ }
-{
-    let n = u8::count_ones(w);
-    (faulty as u32) < n
 }

@@ -4,7 +4,7 @@ use mathlib.Core.Bool.{Bool, true, _&&_}
 use mathlib.Core.List.{List, [], _∷_}
 use Prim.Native.Nat.{ℕ, _^_, _≤_}
 use native.Mathlib.Omega.{arith}
-use lib.Dec.{T, eqb, leb, ltb, leb→le}
+use lib.Dec.{T, eqb, ltb, leb→le}
 use lib.ListN.{length, take}
 use Rattle.rules.specs.Tests.{all, allBelow, distinct, first}
 use Rattle.rules.specs.Lent.{memory, counts, tables, roomOf, intakeOf, sameScan, houseForm}

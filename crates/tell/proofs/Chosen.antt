@@ -7,16 +7,15 @@ use native.Mathlib.Decide.{ℕ-discrete, decLt}
 use native.Mathlib.Omega.{arith}
 use lib.Dec.{leb, leb→le, le→leb}
 use lib.ListN.{getD}
-use Rattle.rules.specs.Tests.{any, bit}
+use Rattle.rules.specs.Tests.{any}
 use Rattle.rules.specs.Words.{Room, State}
 use Rattle.rules.specs.Lent.{memory, read, roomOf, boardOf}
 use Rattle.rules.specs.Steps.{is2b, chosen}
 use Rattle.rules.specs.Book.{chosenIn, unchosen, agreed, split, outcome}
 use Rattle.rules.specs.Laws.{Chosen}
 use Rattle.rules.specs.declared.House.{House}
-use Rattle.rules.proofs.Sound.{and-l, and-r}
-use Rattle.rules.proofs.Lists.{passed, both}
-use Rattle.rules.proofs.Scan.{below-same}
+use Rattle.rules.proofs.Sound.{and-l, and-r, and-two}
+use Rattle.rules.proofs.Scan.{below-same, holds}
 use Rattle.rules.proofs.Outcome.{none-chosen, one-chosen, two-chosen}
 use Rattle.sets.proofs.Full.{full-gathered}
 use Rattle.tell.specs.Votes.{Countable, slot, Counted}
@@ -57,12 +56,12 @@ module _ (h : House) (s cells heard votes : List ℕ) (row : ℕ) (c : Countable
   found w z =
       let l = leb→le 1 w (and-l (leb 1 w) (leb w 64) (z .0)) in
       let k = leb→le w 64 (and-r (leb 1 w) (leb w 64) (z .0)) in
-      (l, k, carried-chosen h s cells heard votes row w c f l k ∙ passed (chosenIn ρ σ row w) (z .1))
+      (l, k, carried-chosen h s cells heard votes row w c f l k ∙ holds (chosenIn ρ σ row w) (z .1))
 
   is-chosen : (w : ℕ) → 1 ≤ w → w ≤ 64 → p w ≡ true → Chosen ρ σ row w
-  is-chosen w l k e = (both (leb 1 w) (leb w 64) (le→leb 1 w l) (le→leb w 64 k), rw (sym (carried-chosen h s cells heard votes row w c f l k) ∙ e) tt)
+  is-chosen w l k e = (and-two (leb 1 w) (leb w 64) (le→leb 1 w l) (le→leb w 64 k), rw (sym (carried-chosen h s cells heard votes row w c f l k) ∙ e) tt)
 
-  -- what was passed over is not chosen
+  -- what was holds over is not chosen
   over : (start v w : ℕ) → Next p start v → start ≤ w → w < v → Chosen ρ σ row w → ⊥
   over start v w n a b z = let e : _≡_ {A = ℕ} 0 1 = cc (found w z .2, n .none w a b) in omega arith
 

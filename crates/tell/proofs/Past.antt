@@ -17,7 +17,6 @@ use Rattle.rules.specs.Replies.{fields, tubes, rules, areas, gate, reply, after
 use Rattle.rules.proofs.Sound.{and-l, and-r, any-sound, in-sound, clear}
 use Rattle.rules.proofs.Lists.{failed}
 use Rattle.rules.proofs.Totals.{some-node}
-use Rattle.kept.specs.Kept.{Whole}
 use Rattle.kept.proofs.Lists.{all-more}
 use Rattle.kept.proofs.Stay.{after-by}
 use Rattle.tell.specs.declared.Figures.{Figures}
@@ -52,9 +51,6 @@ countable m p q t =
       limits = all-more (goodMsg (roomOf h) (h .tubes)) (limits (roomOf h)) (boardOf (m .board) (h .count)) (λ x u. and-l (limits (roomOf h) x) (scanned (h .tubes) x) u) good;
       peopled = peopled (roomOf h) (eqb→eq (first (tables (roomOf h))) 0 set);
     }
-
-pub whole-countable : (m : Memory) → Whole m → Countable (m .house) (m .board)
-whole-countable m w = countable m (w .counts) (w .long) (w .form)
 
 -- ---- the answer, past the gate and before it
 

@@ -14,9 +14,10 @@ use Rattle.rules.specs.declared.House.{House}
 use Rattle.rules.specs.declared.Cell as stored-cell
 use Rattle.rules.specs.declared.Message.{Message}
 use Rattle.rules.proofs.Codec.{Small, At}
+use Rattle.rules.proofs.Spare.{room-post}
 use Rattle.board.specs.Asked.{Postable, Posted}
 use Rattle.board.proofs.Bytes.{own-stored, means-stored}
-use Rattle.kept.proofs.Sim.{Sized, Sendable, entered, post-room}
+use Rattle.kept.proofs.Sim.{Sized, Sendable, entered}
 use Rattle.kept.proofs.Ready.{Form, length-intake}
 use Rattle.kept.proofs.Stay.{done}
 use Rattle.intake.proofs.Scans.{known-tube}
@@ -48,7 +49,7 @@ module _ (m : Memory) (x : Msg) (r n : ℕ) (d : Cell) where
   pub cell-after : {h : House} {s t : List ℕ} (k : stored-cell.Cell) (j : ℕ) → memory h s (m .cells) (m .heard) ≡ post m x → k ≡ storedCell d
       → j ≡ place (m .house .rows) r n → t ≡ patch (m .cells) (36 * j) (encode k) → memory h s t (m .heard) ≡ writeCell (post m x) r n d
   cell-after {h} {s} {t} k j e f l g =
-      let rows : m .house .rows ≡ h .rows = sym (ap (λ (p : Memory). p .house .rows) e ∙ ap (λ (ρ : Room). ρ .rows) (post-room m x)) in
+      let rows : m .house .rows ≡ h .rows = sym (ap (λ (p : Memory). p .house .rows) e ∙ ap (λ (ρ : Room). ρ .rows) (room-post m x)) in
       let at : j ≡ place (h .rows) r n = l ∙ ap (λ (w : ℕ). place w r n) rows in
       ap (λ (u : List ℕ). memory h s u (m .heard)) (g ∙ (λ i. patch (m .cells) (36 * at i) (encode (f i)))) ∙ ap (λ (p : Memory). writeCell p r n d) e
 

@@ -2,8 +2,9 @@
 use native.Mathlib.Omega.{arith}
 use borrow.Author.Needs.{needs}
 use Rattle.lines.specs.Decimal.{decimal}
+use Rattle.lines.proofs.Decimal.{decimal-long}
 use Rattle.closing.specs.Given.{Wrote}
-use Rattle.closing.proofs.Writing.{wrote-on, decimal-short}
+use Rattle.closing.proofs.Writing.{wrote-on}
 use Rattle.closing.proofs.put_field.Statement.{statement}
 use Rattle.closing.proofs.put_field.Tie as tie
 
@@ -13,7 +14,7 @@ put-text-requires c κs = search needs
 put-decimal-requires : tie.Need-put-decimal-requires
 put-decimal-requires c κs =
     let t = c .before .before .before .put-text in
-    omega (arith, decimal-short (c .before .before .before .before .before .before .before .args .number), t .ensures .ends, t .kept .0)
+    omega (arith, decimal-long (c .before .before .before .before .before .before .before .args .number), t .ensures .ends, t .kept .0)
 
 same-length : tie.Need-same-length
 same-length c = search needs
@@ -24,7 +25,7 @@ returns c =
     let t = c .before .before .before .before .before .before .put-text in
     let d = c .before .before .put-decimal in
     let w : Wrote (t .last .0) (t .result) (decimal (a .number)) (d .result) (d .last .0) = record { ends = d .ensures .0; area = d .ensures .1 } in
-    (wrote-on (omega arith) (t .ensures) w, omega (arith, decimal-short (a .number), t .ensures .ends))
+    (wrote-on (omega arith) (t .ensures) w, omega (arith, decimal-long (a .number), t .ensures .ends))
 
 pub put-field-spec : {M : Type 1} → statement M
 put-field-spec = tie.close (tie.spec put-text-requires put-decimal-requires same-length returns)

@@ -1,10 +1,10 @@
 -- Slot by slot: every slot passed has another message.
-use mathlib.Core.Path.{_≡_, refl, ap, sym, _∙_}
-use Prim.Native.Nat.{ℕ, _+_, _-_, _*_, _≤_, _<_}
+use mathlib.Core.Path.{sym, _∙_}
+use Prim.Native.Nat.{ℕ, _-_, _≤_, _<_}
 use native.Mathlib.Omega.{arith}
 use borrow.Author.Needs.{needs}
 use lib.ListN.{getD}
-use Rattle.differ.specs.Differ.{Other, Probed}
+use Rattle.differ.specs.Differ.{Other}
 use Rattle.differ.proofs.Slots.{other-more, equal-there}
 use Rattle.differ.proofs.probe.Statement.{statement}
 use Rattle.differ.proofs.probe.Tie as tie

@@ -1,7 +1,5 @@
 -- By where the probe ended.
-use mathlib.Core.Path.{_≡_, refl, ap, sym, _∙_}
-use Prim.Native.Nat.{ℕ, _+_, _-_, _*_, _≤_, _<_}
-use native.Mathlib.Omega.{arith}
+use mathlib.Core.Path.{sym}
 use borrow.Author.Needs.{needs}
 use Rattle.differ.proofs.settled.Statement.{statement}
 use Rattle.differ.proofs.settled.Tie as tie

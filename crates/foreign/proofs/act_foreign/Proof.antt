@@ -1,6 +1,5 @@
 -- A foreign post is made, posted, and its node marked.
-use mathlib.Core.Path.{_≡_, ap, _∙_}
-use Prim.Native.Nat.{_<_}
+use mathlib.Core.Path.{ap, _∙_}
 use native.Mathlib.Omega.{arith}
 use borrow.Author.Needs.{needs}
 use lib.Dec.{T}
@@ -9,11 +8,12 @@ use Rattle.rules.specs.Steps.{Post, foreign, posted}
 use Rattle.rules.specs.Replies.{postIn, fields}
 use Rattle.rules.specs.declared.Message.{Message}
 use Rattle.kept.proofs.Ready.{Passed, passed, ready}
+use Rattle.kept.proofs.Good.{poster-in}
 use Rattle.judge.proofs.Past.{bounds}
 use Rattle.write.proofs.Acts.{postable}
 use Rattle.write.proofs.Acts as acts
 use Rattle.step.specs.Given.{postOf}
-use Rattle.foreign.proofs.Posts.{poster-in, poster-stored, marked-after}
+use Rattle.foreign.proofs.Posts.{poster-stored, marked-after}
 use Rattle.foreign.proofs.act_foreign.Statement.{statement}
 use Rattle.foreign.proofs.act_foreign.Tie as tie
 

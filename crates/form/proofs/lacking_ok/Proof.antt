@@ -1,5 +1,4 @@
 -- By the kind, tested one after another.
-use native.Mathlib.Omega.{arith}
 use borrow.Author.Needs.{needs}
 use borrow.Author.Tests.{eq-eqb, ne-eqb}
 use Rattle.form.specs.Form.{lacking}

@@ -1,12 +1,11 @@
 -- The form first, then the tubes.
-use mathlib.Core.Path.{_≡_, refl, ap, sym, _∙_}
-use mathlib.Core.Bool.{Bool, true, false, _&&_}
+use mathlib.Core.Path.{ap, sym, _∙_}
+use mathlib.Core.Bool.{Bool, _&&_}
 use borrow.Author.Needs.{needs}
 use borrow.Author.Tests.{not-true, not-false}
 use lib.Dec.{leb}
 use Rattle.rules.specs.Tests.{all}
-use Rattle.rules.specs.Lent.{pairsOf, pairsIn}
-use Rattle.rules.specs.Replies.{pairsPlain}
+use Rattle.rules.specs.Lent.{pairsOf}
 use Rattle.form.proofs.Plain.{pairs-few}
 use Rattle.form.proofs.pairs_ok.Statement.{statement}
 use Rattle.form.proofs.pairs_ok.Tie as tie

@@ -1,6 +1,5 @@
 -- Writing the counts: each number behind those before it.
 use mathlib.Core.List.{[], _∷_, _++_}
-use Prim.Native.Nat.{_+_}
 use native.Mathlib.Omega.{arith}
 use Rattle.image.specs.Image.{two}
 use Rattle.image.proofs.Writing.{then}

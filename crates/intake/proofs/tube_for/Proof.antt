@@ -1,17 +1,15 @@
 use mathlib.Core.Path.{_≡_, refl, sym, ap, _∙_}
-use mathlib.Core.Bool.{Bool, true, false}
-use Prim.Native.Nat.{ℕ, suc, _≤_, _-_}
+use mathlib.Core.Bool.{false}
+use Prim.Native.Nat.{suc, _≤_, _-_}
 use native.Mathlib.Numerals.{add-one}
 use native.Mathlib.Omega.{arith}
 use borrow.Author.Needs.{needs}
 use Rattle.rules.specs.Lent.{intakeOf}
-use Rattle.rules.specs.Steps.{scannedIn, tubeFor}
-use Rattle.intake.proofs.Scans.{length-intake, scanned-more, tube-new, tube-here}
+use Rattle.rules.specs.Steps.{scannedIn}
+use Rattle.rules.proofs.Codec.{length-scans}
+use Rattle.intake.proofs.Scans.{scanned-more, tube-new, tube-here}
 use Rattle.intake.proofs.tube_for.Statement.{statement}
 use Rattle.intake.proofs.tube_for.Tie as tie
-use Rattle.intake.proofs.tube_for.Reads as reads
-use Rattle.intake.proofs.tube_for.Lts as lts
-use Rattle.intake.proofs.is_scan.Reads as is-scan-reads
 
 abbrev Inv-loop : tie.InvT-loop
 Inv-loop stations serials n station serial i₀ i = (i ≤ n) × (scannedIn (intakeOf stations serials i) station serial ≡ false)
@@ -75,7 +73,7 @@ returns-2 c =
     let l = c .before .loop in
     let a = c .before .before .before .before .args in
     let e : l .i ≡ a .n = omega arith in
-    add-one (a .n) ∙ sym (tube-new (intakeOf (a .stations .now) (a .serials .now) (a .n)) (a .station) (a .serial) (rw e at (l .inv .1)) ∙ ap suc (length-intake (a .stations .now) (a .serials .now) (a .n)))
+    add-one (a .n) ∙ sym (tube-new (intakeOf (a .stations .now) (a .serials .now) (a .n)) (a .station) (a .serial) (rw e at (l .inv .1)) ∙ ap suc (length-scans (a .stations .now) (a .serials .now) (a .n)))
 
 pub tube-for-spec : {M : Type 1} → statement M
 tube-for-spec =

@@ -13,9 +13,10 @@ use Rattle.board.specs.Asked.{Postable}
 use Rattle.judge.proofs.Past.{bounds}
 use Rattle.write.proofs.Acts.{postable}
 use Rattle.write.proofs.Acts as acts
-use Rattle.foreign.proofs.Posts.{poster-in, poster-stored}
+use Rattle.foreign.proofs.Posts.{poster-stored}
 use Rattle.kept.proofs.Ready.{Passed, passed, ready}
 use Rattle.kept.specs.Kept.{Whole}
+use Rattle.kept.proofs.Good.{poster-in}
 use Rattle.step.specs.Given.{postOf}
 use Rattle.calls.proofs.Call.{past, at-gate, by-judge, named}
 use Rattle.lent.proofs.Left.{refused-left, counted-as, accepted-left}

@@ -5,8 +5,9 @@ use Prim.Native.Nat.{ℕ, _+_, _/_, _%_, _<_}
 use native.Mathlib.Omega.{arith}
 use lib.ListN.{length, set, length-set}
 use Rattle.rules.specs.Lent.{patch}
+use Rattle.rules.proofs.Area.{set-patch}
 use Rattle.lines.specs.Decimal.{decimal}
-use Rattle.lines.proofs.Decimal.{decimal-few, decimal-more, length-more, patch-one, patch-more}
+use Rattle.lines.proofs.Decimal.{decimal-few, decimal-more, length-more, patch-more}
 use borrow.Fn.Kinds.{In}
 use borrow.Fn.PlainCycle.{Measures, is, falls, and}
 use Rattle.lines.proofs.put_decimal.Reads as reads
@@ -43,7 +44,7 @@ returns : (t : ℕ) → lts.Need-returns (below t, reads.Post) (starts t) reads.
 returns t c =
     let a = c .before .before .args in
     let few = decimal-few (a .n) (c .if1 .taken) in
-    (rw few, rw few (patch-one (a .buf .now) (a .at) (48 + a .n) (omega (arith, ap length few))))
+    (rw few, rw few (set-patch (a .buf .now) (a .at) (48 + a .n) (omega (arith, ap length few))))
 
 put-decimal-requires : (t : ℕ) → lts.Need-put-decimal-requires (below t, reads.Post) (starts t) reads.Post
 put-decimal-requires t c κs = (omega arith, omega (arith, length-more (c .before .before .before .args .n) (omega arith) (omega arith)))

@@ -1,6 +1,4 @@
 -- The end is what is due: the closing lines, an opening before them, a missing heading, or nothing more.
-use mathlib.Core.Path.{sym, _∙_}
-use native.Mathlib.Nat.{zero-add}
 use native.Mathlib.Omega.{arith}
 use Rattle.rules.specs.Lent.{memory}
 use Rattle.closing.proofs.Writing.{wrote-none}

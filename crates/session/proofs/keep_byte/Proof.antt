@@ -1,7 +1,5 @@
 -- A byte goes behind those held, while they are not 201.
-use mathlib.Core.Path.{_≡_}
 use native.Mathlib.Omega.{arith}
-use lib.ListN.{length}
 use Rattle.session.proofs.Turns.{kept-none, kept-more}
 use borrow.Author.Needs.{needs}
 use Rattle.session.proofs.keep_byte.Statement.{statement}

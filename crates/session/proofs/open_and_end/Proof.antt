@@ -5,7 +5,6 @@ use native.Mathlib.Omega.{arith}
 use lib.ListN.{length}
 use Prim.Native.Nat.{_≤_}
 use Rattle.rules.specs.Lent.{memory}
-use Rattle.closing.specs.Printed.{answerText}
 use Rattle.page.specs.Sheet.{closes}
 use Rattle.page.specs.Held.{headsOf}
 use Rattle.session.proofs.Turns.{wrote-as, wrote-part, put-part, ends-opened, ends-refused}

@@ -2,9 +2,6 @@
 use mathlib.Core.Path.{sym}
 use native.Mathlib.Omega.{arith}
 use lib.Seq.{length-take-le}
-use Rattle.rules.specs.Lent.{memory}
-use Rattle.page.specs.Sheet.{sheetOf}
-use Rattle.page.specs.Held.{headsOf}
 use Rattle.session.proofs.Turns.{ate-byte, ate-line}
 use borrow.Author.Needs.{needs}
 use Rattle.session.proofs.take_byte.Statement.{statement}

@@ -1,7 +1,7 @@
 -- The headings are read on; a line that ends them is bad, or begins the steps.
 use mathlib.Core.Path.{refl}
 use native.Mathlib.Omega.{arith}
-use Rattle.rules.specs.Lent.{Memory, memory}
+use Rattle.rules.specs.Lent.{memory}
 use Rattle.page.specs.Held.{headsOf}
 use Rattle.session.specs.Held.{said}
 use Rattle.session.proofs.Turns.{as-turn, in-silence, heading-begins, heading-bad, heading-on}

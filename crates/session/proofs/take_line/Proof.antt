@@ -1,10 +1,7 @@
 -- A line is a step, a heading or nothing more, as is due.
-use mathlib.Core.Path.{ap, _∙_}
 use native.Mathlib.Omega.{arith}
 use Rattle.rules.specs.Lent.{memory}
-use Rattle.lines.specs.declared.Parsed.{Parsed}
 use Rattle.lines.specs.Grammar.{parsed}
-use Rattle.page.specs.Sheet.{sheetOf, takes}
 use Rattle.page.specs.Held.{headsOf}
 use Rattle.session.proofs.Turns.{as-turn, in-silence, takes-none, takes-heading, takes-step, as-read}
 use borrow.Author.Needs.{needs}

@@ -1,11 +1,11 @@
 -- Sets pass one by one.
 use borrow.Author.Needs.{needs}
-use mathlib.Core.Path.{_≡_, refl, ap, sym, _∙_}
-use mathlib.Core.Bool.{Bool, true, false}
-use Prim.Native.Nat.{ℕ, _≤_, _<_, _-_}
+use mathlib.Core.Path.{_≡_, sym, _∙_}
+use mathlib.Core.Bool.{true}
+use Prim.Native.Nat.{_≤_, _-_}
 use native.Mathlib.Omega.{arith}
 use borrow.Author.Tests.{not-true, not-false}
-use lib.ListN.{length, getD}
+use lib.ListN.{getD}
 use Rattle.rules.specs.Tests.{allBelow}
 use Rattle.tables.specs.Tables.{passes}
 use Rattle.rules.proofs.Each.{each-more, each-stop, all-take}

@@ -1,11 +1,11 @@
 -- Each set shares enough with all of them, one by one.
-use mathlib.Core.Path.{_≡_, refl, ap, sym, _∙_}
-use mathlib.Core.Bool.{Bool, true, false}
-use Prim.Native.Nat.{ℕ, _≤_, _<_, _-_}
+use mathlib.Core.Path.{_≡_, sym, _∙_}
+use mathlib.Core.Bool.{Bool, true}
+use Prim.Native.Nat.{ℕ, _≤_, _-_}
 use native.Mathlib.Omega.{arith}
 use borrow.Author.Needs.{needs}
 use borrow.Author.Tests.{not-true, not-false}
-use lib.ListN.{length, getD, take}
+use lib.ListN.{getD, take}
 use Rattle.rules.specs.Tests.{all, allBelow}
 use Rattle.tables.specs.Tables.{share}
 use Rattle.rules.proofs.Each.{each-more, each-stop, all-take}

@@ -1,11 +1,9 @@
 -- The tables, the scans and the marks pass one after another.
-use mathlib.Core.Path.{_≡_, refl, ap, sym, _∙_}
-use mathlib.Core.Bool.{Bool, true, false}
-use Prim.Native.Nat.{ℕ, _≤_, _<_}
+use mathlib.Core.Path.{refl, sym, _∙_}
+use mathlib.Core.Bool.{true, false}
 use native.Mathlib.Omega.{arith}
 use borrow.Author.Needs.{needs}
 use borrow.Author.Tests.{not-true, not-false, eq-eqb, ne-eqb}
-use lib.ListN.{length}
 use Rattle.tables.proofs.Counted.{counted, scans-fit, house-are}
 use Rattle.tables.proofs.Sets.{power-fits}
 use Rattle.tables.proofs.house_ok.Statement.{statement}

@@ -1,6 +1,6 @@
 -- Small sizes, so that no product wraps.
 use borrow.Author.Needs.{needs}
-use Prim.Native.Nat.{ℕ, _*_, _≤_}
+use Prim.Native.Nat.{_*_, _≤_}
 use native.Mathlib.Nat.{mul-le-mul}
 use native.Mathlib.Omega.{arith}
 use Rattle.tables.proofs.lengths_ok.Statement.{statement}

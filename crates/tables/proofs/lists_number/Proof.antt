@@ -1,8 +1,11 @@
 -- The tests of the tables in their order; sets that name present nodes are bytes.
-use mathlib.Core.Path.{_≡_, refl, ap, sym, _∙_}
+use mathlib.Core.Path.{_≡_, refl, sym, _∙_}
 use mathlib.Core.Bool.{Bool, true, false}
 use borrow.Author.Needs.{needs}
 use borrow.Author.Tests.{not-true, not-false}
+use Rattle.rules.specs.Tests.{pick, first}
+use Rattle.rules.specs.Lent.{tables}
+use Rattle.tables.specs.Tables.{withLists}
 use Rattle.tables.proofs.Lists.{set-bytes, lists-are}
 use Rattle.tables.proofs.lists_number.Statement.{statement}
 use Rattle.tables.proofs.lists_number.Tie as tie
@@ -68,9 +71,11 @@ slice-aggregate-all-pass c = search needs
 all-pass-requires : tie.Need-all-pass-requires
 all-pass-requires c κs = search needs
 
-returns-4 : tie.Need-returns-4
-returns-4 c =
-    let y = c .before in
+-- past the first three tests, the last decides
+decided : (y : tie.After-all-pass) (d : Bool) → y .all-pass .result ≡ d
+    → let a = y .before .before .before .before .before .before .before .before .before .before .before .before .before .args in
+    first (tables (withLists (a .nodes) (a .faulty) (a .quorums .now) (a .weaks .now))) ≡ pick d 0 4
+decided y d t =
     let e3 = y .before .before in
     let x = e3 .before in
     let n1 = x .before .before .before in
@@ -81,24 +86,14 @@ returns-4 c =
     let s = p .before .before .before in
     let a = s .args in
     let h = rw (n1 .narrowed .ensures) at (sym (x .all-share .ensures) ∙ not-false _ (e3 .if3 .left)) in
-    let g = rw (x .before .before .narrowed2 .ensures) at (sym (y .all-pass .ensures) ∙ not-true _ (c .if4 .taken)) in
-    sym (lists-are (a .nodes) (a .faulty) (a .quorums .now) (a .weaks .now) true true true false (s .pre .1 .0) (s .pre .1 .1) (sym (p .sets-present .ensures) ∙ not-false _ (e1 .if1 .left)) (sym (p2 .sets-present2 .ensures) ∙ not-false _ (e2 .if2 .left)) h g)
+    let g = rw (x .before .before .narrowed2 .ensures) at (sym (y .all-pass .ensures) ∙ t) in
+    lists-are (a .nodes) (a .faulty) (a .quorums .now) (a .weaks .now) true true true d (s .pre .1 .0) (s .pre .1 .1) (sym (p .sets-present .ensures) ∙ not-false _ (e1 .if1 .left)) (sym (p2 .sets-present2 .ensures) ∙ not-false _ (e2 .if2 .left)) h g
+
+returns-4 : tie.Need-returns-4
+returns-4 c = sym (decided (c .before) false (not-true _ (c .if4 .taken)))
 
 returns-5 : tie.Need-returns-5
-returns-5 c =
-    let y = c .before in
-    let e3 = y .before .before in
-    let x = e3 .before in
-    let n1 = x .before .before .before in
-    let e2 = n1 .before in
-    let p2 = e2 .before in
-    let e1 = p2 .before in
-    let p = e1 .before in
-    let s = p .before .before .before in
-    let a = s .args in
-    let h = rw (n1 .narrowed .ensures) at (sym (x .all-share .ensures) ∙ not-false _ (e3 .if3 .left)) in
-    let g = rw (x .before .before .narrowed2 .ensures) at (sym (y .all-pass .ensures) ∙ not-false _ (c .if4 .left)) in
-    sym (lists-are (a .nodes) (a .faulty) (a .quorums .now) (a .weaks .now) true true true true (s .pre .1 .0) (s .pre .1 .1) (sym (p .sets-present .ensures) ∙ not-false _ (e1 .if1 .left)) (sym (p2 .sets-present2 .ensures) ∙ not-false _ (e2 .if2 .left)) h g)
+returns-5 c = sym (decided (c .before) true (not-false _ (c .if4 .left)))
 
 pub lists-number-spec : {M : Type 1} → statement M
 lists-number-spec =

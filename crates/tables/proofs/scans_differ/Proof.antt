@@ -1,11 +1,10 @@
 -- Scans pass one by one: each is none of those before it.
-use mathlib.Core.Path.{_≡_, refl, ap, sym, _∙_}
-use mathlib.Core.Bool.{Bool, true, false, not}
-use Prim.Native.Nat.{ℕ, _+_, _-_, _*_, _≤_, _<_}
+use mathlib.Core.Path.{_≡_, sym, _∙_}
+use mathlib.Core.Bool.{true}
+use Prim.Native.Nat.{_-_, _≤_}
 use native.Mathlib.Omega.{arith}
 use borrow.Author.Needs.{needs}
 use borrow.Author.Tests.{not-true, not-false}
-use lib.ListN.{length, getD, take}
 use Rattle.rules.specs.Tests.{allBelow}
 use Rattle.tables.specs.Tables.{newScan}
 use Rattle.rules.proofs.Each.{each-more, each-stop}

@@ -1,5 +1,4 @@
 -- Asking a row is the gate, and then what is told.
-use mathlib.Core.Path.{_≡_}
 use borrow.Author.Needs.{needs}
 use Rattle.calls.proofs.asks.ask.Statement.{statement}
 use Rattle.calls.proofs.asks.ask.Tie as tie

@@ -1,5 +1,5 @@
 -- The book is the gate, its own areas tested with the others, and then what is told.
-use mathlib.Core.Path.{_≡_, ap, _∙_}
+use mathlib.Core.Path.{ap, _∙_}
 use mathlib.Core.Bool.{Bool}
 use borrow.Author.Needs.{needs}
 use Rattle.rules.specs.Tests.{first}

@@ -1,12 +1,12 @@
 -- A 2b, judged and done.
 use mathlib.Core.Path.{_≡_, refl, sym, _∙_}
-use Prim.Native.Nat.{_≤_}
 use native.Mathlib.Omega.{arith}
 use borrow.Author.Needs.{needs}
 use Rattle.rules.specs.Tests.{first}
 use Rattle.rules.specs.Lent.{Memory, memory, roomOf, Typed, limits}
 use Rattle.rules.specs.Steps.{Call, c2b}
 use Rattle.rules.specs.Replies.{fields, gate, reply, tell}
+use Rattle.kept.specs.Kept.{Whole}
 use Rattle.kept.proofs.Ready.{passed}
 use Rattle.calls.proofs.Call.{past, at-gate, by-judge, named, refused, done}
 use Rattle.calls.proofs.Numbers.{Small, small-vote}
@@ -27,16 +27,19 @@ start c = c .before .before .before .before .before .before
 
 -- what was found at the gate, and by the judge
 stopped : (c : tie.Then1) → let b = start (c .before) in reply (lent b) (call b) ≡ c .before .gate .result
-stopped c = let b = start (c .before) in at-gate (lent b) (call b) _ (c .before .gate .ensures) (c .if1 .taken)
+stopped c = at-gate _ _ _ (c .before .gate .ensures) (c .if1 .taken)
 
 gated : (c : tie.Else1) → let b = start (c .before) in first (gate (lent b) (call b)) ≡ 0
 gated c = sym (c .before .gate .ensures) ∙ c .if1 .left
+
+whole : (c : tie.Else1) → Whole (lent (start (c .before)))
+whole c = let b = start (c .before) in past (lent b) (call b) (typed b) (gated c)
 
 abbrev origin : tie.After-judge-2b → tie.Start
 origin c = start (c .before .before .before .before)
 
 judged : (c : tie.After-judge-2b) → reply (lent (origin c)) (call (origin c)) ≡ c .judge-2b .result
-judged c = by-judge (lent (origin c)) (call (origin c)) _ (gated (c .before .before .before)) (c .judge-2b .ensures)
+judged c = by-judge _ _ _ (gated (c .before .before .before)) (c .judge-2b .ensures)
 
 accepted : (c : tie.Else2) → let b = origin (c .before) in reply (lent b) (call b) ≡ 0
 accepted c = judged (c .before) ∙ c .if2 .left
@@ -54,7 +57,7 @@ gate-requires : tie.Need-gate-requires
 gate-requires c κs = search needs
 
 refused-requires : tie.Need-refused-requires
-refused-requires c κs = let b = start (c .before) in named (lent b) (call b) _ (stopped c) (c .if1 .taken)
+refused-requires c κs = named _ _ _ (stopped c) (c .if1 .taken)
 
 same-length : tie.Need-same-length
 same-length c = search needs
@@ -63,17 +66,13 @@ same-length-2 : tie.Need-same-length-2
 same-length-2 c = search needs
 
 returns : tie.Need-returns
-returns c = let d = c .before in
-    let b = start (d .before) in
-    refused (lent b) (call b) _ (stopped d) (d .if1 .taken) (c .refused .ensures)
+returns c = refused _ _ _ (stopped (c .before)) (c .before .if1 .taken) (c .refused .ensures)
 
 judge-2b-requires : tie.Need-judge-2b-requires
-judge-2b-requires c κs = let d = c .before .before in
-    let b = start (d .before) in
-    past (lent b) (call b) (typed b) (gated d)
+judge-2b-requires c κs = whole (c .before .before)
 
 refused-requires-2 : tie.Need-refused-requires-2
-refused-requires-2 c κs = let b = origin (c .before) in named (lent b) (call b) _ (judged (c .before)) (c .if2 .taken)
+refused-requires-2 c κs = named _ _ _ (judged (c .before)) (c .if2 .taken)
 
 same-length-3 : tie.Need-same-length-3
 same-length-3 c = search needs
@@ -82,9 +81,7 @@ same-length-4 : tie.Need-same-length-4
 same-length-4 c = search needs
 
 returns-2 : tie.Need-returns-2
-returns-2 c = let d = c .before in
-    let b = origin (d .before) in
-    refused (lent b) (call b) _ (judged (d .before)) (d .if2 .taken) (c .refused2 .ensures)
+returns-2 c = refused _ _ _ (judged (c .before .before)) (c .before .if2 .taken) (c .refused2 .ensures)
 
 cast-t25 : tie.Need-cast-t25
 cast-t25 c = omega (arith, small c)
@@ -99,9 +96,7 @@ cast-t25-4 : tie.Need-cast-t25-4
 cast-t25-4 c = omega (arith, small c)
 
 act-2b-requires : tie.Need-act-2b-requires
-act-2b-requires c κs = let d = c .before .before in
-    let b = origin (d .before) in
-    (past (lent b) (call b) (typed b) (gated (d .before .before .before .before)), accepted d)
+act-2b-requires c κs = let d = c .before .before in (whole (d .before .before .before .before), accepted d)
 
 same-length-5 : tie.Need-same-length-5
 same-length-5 c = search needs
@@ -111,10 +106,7 @@ same-length-6 c = search needs
 
 returns-3 : tie.Need-returns-3
 unfolding tell
-returns-3 c = let d = c .before .before .before .before in
-    let e = d .before .before .before in
-    let b = origin (e .before) in
-    done (lent b) (call b) (accepted e) refl (d .act-2b .ensures)
+returns-3 c = let d = c .before .before .before .before in done _ _ (accepted (d .before .before .before)) refl (d .act-2b .ensures)
 
 pub send-2b-spec : {M : Type 1} → statement M
 send-2b-spec =

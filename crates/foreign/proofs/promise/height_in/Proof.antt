@@ -1,5 +1,4 @@
 -- None, handed over as 255, has height 0; a ballot has the height after it.
-use native.Mathlib.Omega.{arith}
 use borrow.Author.Tests.{eq-eqb, ne-eqb}
 use Rattle.foreign.proofs.promise.height_in.Statement.{statement}
 use Rattle.foreign.proofs.promise.height_in.Tie as tie

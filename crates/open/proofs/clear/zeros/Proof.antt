@@ -7,7 +7,8 @@ use borrow.Author.Needs.{needs}
 use lib.ListN.{length, set, length-set}
 use Rattle.rules.specs.Tests.{many}
 use Rattle.rules.specs.Lent.{patch}
-use Rattle.open.proofs.Filled.{filled-more, set-patch}
+use Rattle.rules.proofs.Area.{set-patch}
+use Rattle.open.proofs.Filled.{filled-more}
 use Rattle.open.proofs.clear.zeros.Statement.{statement}
 use Rattle.open.proofs.clear.zeros.Tie as tie
 
