@@ -1,4 +1,5 @@
 pub mod Votes
 pub mod Chosen
+pub mod Unvoted
 pub mod Lines
 pub mod Past

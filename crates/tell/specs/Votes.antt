@@ -1,11 +1,11 @@
 -- The votes of a row: a node set for each ballot and tube, and what the board must be for them to be counted.
 use mathlib.Core.Path.{_≡_}
-use mathlib.Core.Bool.{false, _&&_}
+use mathlib.Core.Bool.{Bool, false, _&&_}
 use mathlib.Core.List.{List}
 use Prim.Native.Nat.{ℕ, _+_, _-_, _*_, _≤_, _<_}
 use lib.Dec.{T, eqb}
 use lib.ListN.{length, getD, set}
-use Rattle.rules.specs.Tests.{pick, any, all, bit}
+use Rattle.rules.specs.Tests.{pick, any, all, allBelow, bit}
 use Rattle.rules.specs.Words.{Msg}
 use Rattle.rules.specs.Lent.{msgAt, boardOf, roomOf, limits}
 use Rattle.rules.specs.Steps.{full, is2b}
@@ -24,9 +24,13 @@ pub record Countable (h : House) (s : List ℕ) : Type 0 where
   pub limits : T (all (limits (roomOf h)) (boardOf s (h .count)))
   pub peopled : full (roomOf h) (roomOf h .quorums) (bit 0) ≡ false
 
--- the place of a ballot and a tube among the votes
+-- the place of a ballot and a tube among the votes: a tube's sixteen ballots stand side by side
 abbrev pub slot : ℕ → ℕ → ℕ
-slot b v = 64 * b + (v - 1)
+slot b v = 16 * (v - 1) + b
+
+-- the sixteen sets from a place on are empty
+abbrev pub unvoted : List ℕ → ℕ → Bool
+unvoted votes at = allBelow (λ b. eqb (getD votes (at + b) 0) 0) 16
 
 -- the votes of a row on these messages: the nodes with a 2b for each ballot from 0 to 15 and tube from 1 to 64
 unfoldable pub Counted : List Msg → ℕ → List ℕ → Type 0

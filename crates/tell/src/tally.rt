@@ -1,11 +1,11 @@
 // What a row came to: its votes in one pass over the board, and the tubes that a quorum voted.
 ghost use mathlib.Core.Path.{_≡_};
 ghost use mathlib.Core.Bool.{false};
-ghost use Prim.Native.Nat.{_≤_};
+ghost use Prim.Native.Nat.{_+_, _≤_};
 ghost use lib.ListN.{take};
 ghost use Rattle.rules.specs.Lent.{msgAt, boardOf};
 ghost use Rattle.rules.specs.Book.{outcome};
-ghost use Rattle.tell.specs.Votes.{Countable, Counted, withVote, voted, Within};
+ghost use Rattle.tell.specs.Votes.{Countable, Counted, withVote, voted, unvoted, Within};
 ghost use Rattle.tell.specs.Chosen.{Seen, outcomeOf, filled, carried, Next};
 use crate::RowTube;
 
@@ -14,7 +14,7 @@ fn put_vote(votes: &mut [u8; 1024], ballot: u8, tube: u8, node: u8)
     requires { ⌜ (ballot ≤ 15) × ((1 ≤ tube) × (tube ≤ 64)) ⌝ }
     ensures { λ _. ⌜ now (votes .exit) ≡ withVote (now (votes .entry)) ballot tube node ⌝ }
 {
-    let slot = 64 * (ballot as usize) + (tube as usize - 1);
+    let slot = 16 * (tube as usize - 1) + ballot as usize;
     let had = votes[slot];
     votes[slot] = sets::with_node(had, node);
 }
@@ -63,6 +63,29 @@ fn full_of(quorums: &[u8; 64], n: usize, nodes: u8, have: u8) -> bool
     sets::some_full(list, n as u8, nodes, have)
 }
 
+// The sum with one set more.
+fn added(sum: u32, x: u8) -> u32
+    requires { ⌜ sum ≤ 65535 ⌝ }
+    ensures { λ r. ⌜ r ≡ sum + x ⌝ }
+    ensures { λ r. ⌜ r ≤ sum + 255 ⌝ }
+{
+    sum + x as u32
+}
+
+// Whether the sixteen sets from a place on are empty: they are added up without a stop, which is the quickest for the many tubes without votes.
+fn no_votes(votes: &[u8; 1024], at: usize) -> bool
+    requires { ⌜ at ≤ 1008 ⌝ }
+    ensures { λ r. ⌜ r ≡ unvoted (now (votes .entry)) at ⌝ }
+{
+    let mut sum: u32 = 0;
+    let mut b: usize = 0;
+    while b < 16 {
+        sum = added(sum, votes[at + b]);
+        b += 1;
+    }
+    sum == 0
+}
+
 // Whether some quorum is full of a tube's votes in one ballot.
 fn tube_chosen(quorums: &[u8; 64], n: usize, nodes: u8, votes: &[u8; 1024], tube: u8) -> bool
     requires { ⌜ n ≤ 64 ⌝ }
@@ -71,10 +94,13 @@ fn tube_chosen(quorums: &[u8; 64], n: usize, nodes: u8, votes: &[u8; 1024], tube
     requires { ⌜ (1 ≤ tube) × (tube ≤ 64) ⌝ }
     ensures { λ r. ⌜ r ≡ carried nodes (take n (now (quorums .entry))) (now (votes .entry)) tube ⌝ }
 {
-    let at = tube as usize - 1;
+    let at = 16 * (tube as usize - 1);
+    if no_votes(votes, at) {
+        return false;
+    }
     let mut b: usize = 0;
     while b < 16 {
-        let slot = 64 * b + at;
+        let slot = at + b;
         if full_of(quorums, n, nodes, votes[slot]) {
             return true;
         }

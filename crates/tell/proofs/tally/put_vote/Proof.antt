@@ -30,8 +30,8 @@ pub put-vote-spec : {M : Type 1} → statement M
 put-vote-spec =
     tie.close
     (tie.spec
-    mul-slot
     sub-slot
+    mul-slot
     add-slot
     element-copy-out-had
     with-node-requires
