@@ -145,8 +145,8 @@ def pairs_in_use(messages):
     return scan_frame(room)
 
 
-# A message is looked for first (crates/differ) at the sum of its bytes, each times such a power of 31, modulo 2,039.
-WEIGHTS = [pow(31, 39 - place, 2039) for place in range(40)]
+# A message is looked for first (crates/differ) at the sum of its eight fields, each times such a power of 31, modulo 2,039.
+WEIGHTS = [pow(31, place, 2039) for place in range(8)]
 
 
 def made_to_collide(messages):
