@@ -129,7 +129,8 @@ pairs_refl [] = tt
 pairs_refl (p ∷ l) = and_two (eqb p.0 p.0 && eqb p.1 p.1) (same_pairs l l) (and_two (eqb p.0 p.0) (eqb p.1 p.1) (eqb_refl p.0) (eqb_refl p.1)) (pairs_refl l)
 
 seven : (a b c d e f g h : Bool) → T a → T b → T c → T d → T e → T f → T g → T h → T (a && b && c && d && e && f && g && h)
-seven true true true true true true true true p q r s t u v w = tt
+seven a b c d e f g h p q r s t u v w =
+    and_two _ _ (and_two _ _ (and_two _ _ (and_two _ _ (and_two _ _ (and_two _ _ (and_two a b p q) r) s) t) u) v) w
 
 -- a message is the same as itself
 pub same_refl : (x : Msg) → T (same_msg x x)
