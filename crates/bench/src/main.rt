@@ -1,5 +1,7 @@
 // The benchmark's program: one call of a full eight-station room made over and over on the same memory, so that its cost shows.
 // Standard input has what to do (0 read, 1 call, 2 copy), how often, and a frame whose lists and areas are of that room's lengths.
+#![tactic(auto)]
+
 ghost use Rattle.std.specs.Prelude.{◌+◌, ◌≤◌, length};
 
 use frame::{Asked, Found, Request};

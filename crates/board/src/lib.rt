@@ -1,4 +1,6 @@
 // The board: forty bytes a message, read by value, searched, and appended after the last.
+#![tactic(auto)]
+
 ghost use Rattle.std.specs.Prelude.{◌≡◌, ◌||◌, [], ℕ, ◌+◌, ◌*◌, ◌≤◌, ◌<◌, length};
 ghost use Rattle.rules.specs.Tests.{any, bit, eqs};
 ghost use Rattle.rules.specs.Words.{m1a, m1c, kind_of};

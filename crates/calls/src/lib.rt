@@ -1,4 +1,6 @@
 // The room's calls: memory is tested at the gate, the call is judged, and then it is done; a refusal changes nothing.
+#![tactic(auto)]
+
 ghost use Rattle.std.specs.Prelude.{◌≡◌, ◌≤◌};
 ghost use Rattle.rules.specs.Lent.{memory};
 ghost use Rattle.rules.specs.Steps as steps;
@@ -24,7 +26,7 @@ pub fn settled()
 {}
 
 // What a call answers, and the house record afterwards.
-#[derive(Drop)]
+#[derive(Clone, Copy)]
 pub struct Outcome {
     pub reply: Reply,
     pub house: House,

@@ -1,4 +1,6 @@
 // Cells: thirty-six bytes of the lent cells, read into a struct by value and written back.
+#![tactic(auto)]
+
 ghost use Rattle.std.specs.Prelude.{◌≡◌, ◌+◌, ◌*◌, ◌≤◌, ◌<◌, length, take, drop};
 ghost use Rattle.std.proofs.Math.Seq.{paste};
 ghost use Rattle.rules.specs.Lent.{cell_of, cell_at, encode, patch, place};

@@ -1,4 +1,6 @@
 // What the sheet prints, written into a lent buffer.
+#![tactic(auto)]
+
 ghost use Rattle.std.specs.Prelude.{◌≡◌, not, [], ◌∷◌, ◌++◌, ℕ, ◌+◌, ◌*◌, ◌≤◌, ◌<◌, length, get_or};
 ghost use Rattle.rules.specs.Tests.{pick, one};
 ghost use Rattle.rules.specs.Words.{Room, State};

@@ -1,4 +1,6 @@
 // Demand 3, carried by a function that does nothing: each promise is proved for every run.
+#![tactic(auto)]
+
 ghost use Rattle.demand.specs.Demand.{OneTube, Stays, BookGrows, Clerk, OneLine, FormKept, NotEmpty};
 
 pub fn demand_three()

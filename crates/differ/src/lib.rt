@@ -1,4 +1,6 @@
 // No two messages of a board are equal: each is looked for among those before it, by way of a table of slots.
+#![tactic(auto)]
+
 ghost use Rattle.std.specs.Prelude.{◌≡◌, true, false, ℕ, ◌+◌, ◌*◌, ◌≤◌, ◌<◌, length, get_or};
 ghost use Rattle.rules.specs.Tests.{distinct, eqs};
 ghost use Rattle.rules.specs.Words.{same_msg};

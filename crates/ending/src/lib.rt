@@ -1,4 +1,6 @@
 // The end of a sheet: the closing lines of lent memory, or the number that the gate found.
+#![tactic(auto)]
+
 ghost use Rattle.std.specs.Prelude.{◌≡◌, ◌≤◌, eqb, length};
 ghost use Rattle.rules.specs.Lent.{memory, patch};
 ghost use Rattle.rules.specs.Replies.{stop_of};

@@ -1,4 +1,6 @@
 // A foreign post: what anyone may put on the board under a node's number, judged and done.
+#![tactic(auto)]
+
 pub mod promise; // promise.rt: a foreign 1b and its pairs
 
 ghost use Rattle.std.specs.Prelude.{◌≡◌, [], T};

@@ -1,4 +1,6 @@
 // The gate of every call: counts, lengths and form of lent memory, each part decided by one small function.
+#![tactic(auto)]
+
 ghost use Rattle.std.specs.Prelude.{◌≡◌, true, ◌&&◌, [], ◌*◌, ◌≤◌, leb, length};
 ghost use Rattle.rules.specs.Tests.{all, all_below, first};
 ghost use Rattle.rules.specs.Words.{tube_in, height_of};

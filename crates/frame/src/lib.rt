@@ -1,4 +1,6 @@
 // Frames: one call on one memory image, from the request's bytes to the reply's.
+#![tactic(auto)]
+
 ghost use Rattle.std.specs.Prelude.{◌≡◌};
 ghost use Rattle.rules.specs.Lent.{memory};
 ghost use Rattle.rules.specs.Replies.{answer_of};
@@ -19,7 +21,7 @@ pub const REQUEST: usize = 552;
 pub const REPLY: usize = 472;
 
 // The front of a request: all but the lists and the areas, and how long those are.
-#[derive(Drop)]
+#[derive(Clone, Copy)]
 pub struct Request {
     pub call: u8,
     pub arguments: [u32; 8],
@@ -35,7 +37,7 @@ pub struct Request {
 }
 
 // A call and its numbers; lists, pairs and areas travel beside it.
-#[derive(Drop)]
+#[derive(Clone, Copy)]
 pub enum Asked {
     Opening {
         nodes: u32,
@@ -49,14 +51,14 @@ pub enum Asked {
 }
 
 // What a number asks for: a call, or nothing that there is.
-#[derive(Drop)]
+#[derive(Clone, Copy)]
 pub enum Found {
     Call(Asked),
     Nothing,
 }
 
 // What a frame is answered, and the house record afterwards.
-#[derive(Drop)]
+#[derive(Clone, Copy)]
 pub struct Served {
     pub answer: Answer,
     pub house: House,

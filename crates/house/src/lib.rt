@@ -1,4 +1,6 @@
 // The house record where it stands, lent by its owner: thin functions, walked by hand.
+#![tactic(auto)]
+
 ghost use Rattle.std.specs.Prelude.{◌≡◌, ◌+◌, ◌<◌, ◌^◌};
 ghost use Rattle.std.specs.Int.Bits.{bit_or};
 ghost use Rattle.rules.specs.Lent.{raised, marked};

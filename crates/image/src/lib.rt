@@ -1,4 +1,6 @@
 // The house record as 459 bytes, for a program that is handed it and hands it on.
+#![tactic(auto)]
+
 ghost use Rattle.std.specs.Prelude.{◌≡◌, ◌≤◌, length};
 ghost use Rattle.rules.specs.Lent.{patch};
 ghost use Rattle.image.specs.Image.{counts, image, house_at};

@@ -1,4 +1,6 @@
 // Intake: the tube of a scan, known by station and serial.
+#![tactic(auto)]
+
 ghost use Rattle.std.specs.Prelude.{◌≡◌, ◌&&◌, ◌+◌, ◌≤◌, eqb, length};
 ghost use Rattle.rules.specs.Lent.{intake_of};
 ghost use Rattle.rules.specs.Steps.{tube_for};

@@ -1,4 +1,6 @@
 // What each call is answered once memory passed the gate: test 6, test 7 and the call's own, in the paper's order.
+#![tactic(auto)]
+
 pub mod limits; // limits.rt: numbers of any size against their limits
 pub mod forms; // forms.rt: a node's 1b as it is stored, and whether a message finds room on the board
 pub mod send; // send.rt: 1a, 1c and foreign posts

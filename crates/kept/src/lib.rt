@@ -1,4 +1,6 @@
 // Each call does to memory what it does in the room, and memory stays in form: promises about the rules, with no work to do.
+#![tactic(auto)]
+
 ghost use Rattle.kept.specs.Kept.{Obeyed, Refused, Allowed, StepOrNot, OneStep};
 ghost use Rattle.kept.specs.Kept.{SameRoom, StaysTyped, StaysInForm};
 ghost use Rattle.kept.specs.Kept.{Opens, RunsInForm, RunsInRoom, Never17, Only5, SameRun};

@@ -1,4 +1,6 @@
 // The foreign post on the house record where it stands, lent by its owner: a copy is judged, and only an accepted post touches the record.
+#![tactic(auto)]
+
 ghost use Rattle.std.specs.Prelude.{◌≡◌, ◌≤◌};
 ghost use Rattle.rules.specs.Lent.{memory};
 ghost use Rattle.rules.specs.Steps.{foreign};
@@ -10,7 +12,7 @@ use rules::{House, Node, Reply};
 use step::Post;
 
 // What is left to do at the house record.
-#[derive(Drop)]
+#[derive(Clone, Copy)]
 struct Due {
     accepted: bool,
     fresh: bool,
@@ -18,7 +20,7 @@ struct Due {
 }
 
 // What a post is replied, and what is left to do.
-#[derive(Drop)]
+#[derive(Clone, Copy)]
 struct Placed {
     reply: Reply,
     due: Due,

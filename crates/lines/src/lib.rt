@@ -1,4 +1,6 @@
 // The sheet's lines: what a line says, and how a number is written.
+#![tactic(auto)]
+
 ghost use Rattle.std.specs.Prelude.{◌≡◌, ◌+◌, ◌≤◌, length};
 ghost use Rattle.rules.specs.Lent.{patch};
 ghost use Rattle.lines.specs.Decimal.{decimal};
@@ -12,21 +14,21 @@ pub mod couples; // couples.rt: the pairs of a foreign 1b
 pub mod trying; // trying.rt: the form that a line has
 
 // The next place of a byte in a text, if there is one.
-#[derive(Drop)]
+#[derive(Clone, Copy)]
 enum End {
     At(usize),
     Open,
 }
 
 // A decimal and the place where it ends.
-#[derive(Drop)]
+#[derive(Clone, Copy)]
 pub enum Number {
     At(u32, usize),
     Bad,
 }
 
 // A heading line.
-#[derive(Drop)]
+#[derive(Clone, Copy)]
 pub enum Heading {
     Nodes(u32),
     Faulty(u32),
@@ -37,7 +39,7 @@ pub enum Heading {
 }
 
 // What a line is.
-#[derive(Drop)]
+#[derive(Clone, Copy)]
 pub enum Line {
     Heading(Heading),
     Step(Step),
@@ -45,21 +47,21 @@ pub enum Line {
 }
 
 // A line, and the pairs of a foreign 1b: the first sixteen, and zeros.
-#[derive(Drop)]
+#[derive(Clone, Copy)]
 pub struct Parsed {
     pub line: Line,
     pub pairs: [u32; 32],
 }
 
 // One pair of a foreign 1b: tube and ballot.
-#[derive(Drop)]
+#[derive(Clone, Copy)]
 enum Couple {
     Of(u32, u32),
     Bad,
 }
 
 // The pairs of a foreign 1b: whether the text was well formed, how many there are, and the first sixteen.
-#[derive(Drop)]
+#[derive(Clone, Copy)]
 struct Pairs {
     whole: bool,
     count: usize,
@@ -67,7 +69,7 @@ struct Pairs {
 }
 
 // The form that a line has, numbered from 1 (0: none), its numbers, and its pairs.
-#[derive(Drop)]
+#[derive(Clone, Copy)]
 struct Fields {
     form: u8,
     numbers: [u32; 5],

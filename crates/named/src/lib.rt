@@ -1,4 +1,6 @@
 // The reply of a refusal from the paper's number, and a reply's number and values.
+#![tactic(auto)]
+
 ghost use Rattle.std.specs.Prelude.{◌≡◌, ◌≤◌};
 ghost use Rattle.rules.specs.Replies.{bare, number_of, stop_of, answer_of};
 ghost use Rattle.named.specs.Told.{told, brief};
@@ -82,7 +84,7 @@ pub fn stop_number(x: Stop) -> u8
 }
 
 // A reply's number and values.
-#[derive(Drop)]
+#[derive(Clone, Copy)]
 pub struct Answer {
     pub number: u8,
     pub value: u8,

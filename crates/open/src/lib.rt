@@ -1,4 +1,6 @@
 // Opening a room: the tests 1, 5, 2, 3, 4, and memory as opening leaves it.
+#![tactic(auto)]
+
 ghost use Rattle.std.specs.Prelude.{◌≡◌};
 ghost use Rattle.rules.specs.Lent.{memory};
 ghost use Rattle.rules.specs.Replies.{answer_of, open_reply, Opened};
@@ -11,7 +13,7 @@ mod clear; // clear.rt: cells and heard bits as opening leaves them
 mod room; // room.rt: the room's counts and its house record
 
 // What opening replies, and the house record afterwards.
-#[derive(Drop)]
+#[derive(Clone, Copy)]
 pub struct Opening {
     pub reply: Reply,
     pub house: House,

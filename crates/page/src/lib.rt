@@ -1,4 +1,6 @@
 // The sheet's headings as they are read, line by line, and the opening of the room that they ask for.
+#![tactic(auto)]
+
 ghost use Rattle.std.specs.Prelude.{◌≡◌, List, ℕ, ◌≤◌, eqb, length, take, set};
 ghost use Rattle.rules.specs.Tests.{pick};
 ghost use Rattle.rules.specs.Lent.{memory};
@@ -9,7 +11,7 @@ use lines::{Heading, Line};
 use rules::House;
 
 // The headings as far as they were read: what is due next, the four counts, and the sets of either list.
-#[derive(Drop)]
+#[derive(Clone, Copy)]
 pub struct Heads {
     pub due: u8,
     pub counts: [u32; 4],
@@ -20,14 +22,14 @@ pub struct Heads {
 }
 
 // The sets of one list.
-#[derive(Drop)]
+#[derive(Clone, Copy)]
 struct Sets {
     sets: [u32; 65],
     count: usize,
 }
 
 // What opening leaves: the headings, the house record, and the number that is printed.
-#[derive(Drop)]
+#[derive(Clone, Copy)]
 pub struct Start {
     pub heads: Heads,
     pub house: House,

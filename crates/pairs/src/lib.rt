@@ -1,4 +1,6 @@
 // Sixteen (tube, ballot) pairs as an array by value: what is asked of them, a tube's pairs removed, and a pair put last.
+#![tactic(auto)]
+
 ghost use Rattle.std.specs.Prelude.{◌≡◌, ◌&&◌, [], ◌∷◌, ◌++◌, ◌*◌, ◌≤◌, ◌<◌, eqb, ltb, length, drop};
 ghost use Rattle.rules.specs.Tests.{any, all};
 ghost use Rattle.rules.specs.Lent.{pairs_of, below, ascend, pairs_in};
@@ -7,7 +9,7 @@ ghost use Rattle.rules.specs.Replies.{pairs_plain};
 ghost use Rattle.pairs.specs.Pairs.{passes, Packed};
 
 // What is asked of every pair.
-#[derive(Drop)]
+#[derive(Clone, Copy)]
 pub enum Ask {
     // A tube and a ballot within their limits.
     Limits,
@@ -175,7 +177,7 @@ pub fn pairs_in(pairs: [u8; 32], count: u8) -> bool
 }
 
 // Pairs and how many they are.
-#[derive(Drop)]
+#[derive(Clone, Copy)]
 pub struct Held {
     pub pairs: [u8; 32],
     pub count: u8,

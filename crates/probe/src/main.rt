@@ -1,4 +1,6 @@
 // Reads frames from standard input until it ends, or until one that it cannot hold, and writes a reply for each.
+#![tactic(auto)]
+
 ghost use Rattle.std.specs.Prelude.{◌≡◌};
 
 use frame::{Asked, Found, Request, Served};

@@ -1,22 +1,24 @@
 // The words of the room as types: node, ballot, row and tube, a stored message, a stored cell and the house record.
+#![tactic(auto)]
+
 ghost use Rattle.std.specs.Prelude.{◌≡◌};
 ghost use Rattle.rules.specs.Words.{fresh};
 ghost use Rattle.rules.specs.Lent.{stored_cell};
 
 // A node number, from 0.
-#[derive(Drop)]
+#[derive(Clone, Copy)]
 pub struct Node(pub u8);
 
 // A ballot, 0 to 15; 255 means none where none is allowed.
-#[derive(Drop)]
+#[derive(Clone, Copy)]
 pub struct Ballot(pub u8);
 
 // A row, from 1.
-#[derive(Drop)]
+#[derive(Clone, Copy)]
 pub struct Row(pub u8);
 
 // A tube number, 1 to 64 in scan order; 0 means none where none is allowed.
-#[derive(Drop)]
+#[derive(Clone, Copy)]
 pub struct Tube(pub u8);
 
 impl Node {
@@ -40,7 +42,7 @@ impl Tube {
 }
 
 // The forty bytes of a message, by name.
-#[derive(Drop)]
+#[derive(Clone, Copy)]
 pub struct Message {
     pub kind: u8,
     pub row: u8,
@@ -54,7 +56,7 @@ pub struct Message {
 }
 
 // The thirty-six bytes of a cell, by name.
-#[derive(Drop)]
+#[derive(Clone, Copy)]
 pub struct Cell {
     pub maxbal: u8,
     pub maxvbal: u8,
@@ -80,7 +82,7 @@ impl Cell {
 }
 
 // The house record: tables, counts, intake and foreign marks.
-#[derive(Drop)]
+#[derive(Clone, Copy)]
 pub struct House {
     pub nodes: u8,
     pub faulty: u8,
@@ -98,7 +100,7 @@ pub struct House {
 }
 
 // What a call refuses, in the order of the paper's numbers 1 to 19.
-#[derive(Drop)]
+#[derive(Clone, Copy)]
 pub enum Refusal {
     CountOutside,
     AbsentNode,
@@ -122,7 +124,7 @@ pub enum Refusal {
 }
 
 // Why the book stopped.
-#[derive(Drop)]
+#[derive(Clone, Copy)]
 pub enum Stop {
     RowsEnded,
     Unchosen,
@@ -130,7 +132,7 @@ pub enum Stop {
 }
 
 // What a call replies: done, done with a tube, the book's figures, or a refusal.
-#[derive(Drop)]
+#[derive(Clone, Copy)]
 pub enum Reply {
     Done,
     Told(Tube),

@@ -1,4 +1,6 @@
 // Known safe: the 1b messages that a node has heard, gathered in one pass into sets of nodes, and the search for full sets.
+#![tactic(auto)]
+
 ghost use Rattle.std.specs.Prelude.{◌≡◌, List, [], ◌∷◌, ◌++◌, ℕ, ◌+◌, ◌*◌, ◌≤◌, ◌<◌, length, get_or};
 ghost use Rattle.rules.specs.Tests.{pick, any_below};
 ghost use Rattle.rules.specs.Words.{Msg, height_of};
@@ -7,7 +9,7 @@ ghost use Rattle.rules.specs.Steps.{low, shown, heard_from, known};
 ghost use Rattle.safe.specs.Safe.{says, with_teller, ask_at, promise, Tells, safe_at, Ready};
 
 // What is asked of a 1b.
-#[derive(Drop)]
+#[derive(Clone, Copy)]
 pub enum Ask {
     // (i) mbal none.
     Empty,
@@ -18,7 +20,7 @@ pub enum Ask {
 }
 
 // The nodes of which a 1b was heard that passes: (i), and (ii) for each c.
-#[derive(Drop)]
+#[derive(Clone, Copy)]
 pub struct Told {
     pub none: u8,
     pub low: [u8; 16],

@@ -1,4 +1,6 @@
 // A sheet read byte by byte from lent memory: each line is taken when its newline comes, and the end of the input closes the sheet.
+#![tactic(auto)]
+
 ghost use Rattle.std.specs.Prelude.{◌≡◌, ◌≤◌, length, take};
 ghost use Rattle.rules.specs.Lent.{memory};
 ghost use Rattle.lines.specs.Grammar.{parsed};
@@ -22,7 +24,7 @@ pub fn sheets()
 {}
 
 // A sheet between two bytes: its headings, its house record, and how many bytes of a line are held.
-#[derive(Drop)]
+#[derive(Clone, Copy)]
 pub struct Session {
     pub heads: Heads,
     pub house: House,
@@ -30,7 +32,7 @@ pub struct Session {
 }
 
 // A sheet after a line, and where its print ends.
-#[derive(Drop)]
+#[derive(Clone, Copy)]
 struct Taken {
     heads: Heads,
     house: House,
@@ -38,7 +40,7 @@ struct Taken {
 }
 
 // A sheet after a byte, and how much was printed.
-#[derive(Drop)]
+#[derive(Clone, Copy)]
 pub struct Fed {
     pub session: Session,
     pub wrote: usize,

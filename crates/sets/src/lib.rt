@@ -1,4 +1,6 @@
 // Node sets as bytes, bit 0 for node 0: membership, one node more, the search for a full set, and how many nodes.
+#![tactic(auto)]
+
 ghost use Rattle.std.specs.Prelude.{◌≡◌, not, ◌&&◌, ◌≤◌, ◌<◌, take};
 ghost use Rattle.rules.specs.Tests.{any, all_in, bit};
 ghost use Rattle.sets.specs.Sets.{joined};

@@ -1,4 +1,6 @@
 // The sheet program: reads a sheet from standard input, byte by byte, and prints each answer and then the closing lines.
+#![tactic(auto)]
+
 ghost use Rattle.std.specs.Prelude.{◌≤◌, length};
 
 use libc::{STDIN_FILENO, STDOUT_FILENO};
@@ -46,7 +48,7 @@ fn take_part(
 }
 
 // What one reading left: whether there may be more to read, and the sheet.
-#[derive(Drop)]
+#[derive(Clone, Copy)]
 struct Turn {
     more: bool,
     session: Session,

@@ -1,7 +1,8 @@
 // A step as it is handed over: numbers of any size, in the words of the room; nothing is judged here.
+#![tactic(auto)]
 
 // A foreign 1b: mbal is 255 for none, and its pairs travel beside it.
-#[derive(Drop)]
+#[derive(Clone, Copy)]
 pub struct OneB {
     pub row: u32,
     pub ballot: u32,
@@ -12,7 +13,7 @@ pub struct OneB {
 }
 
 // A foreign 2av or 2b.
-#[derive(Drop)]
+#[derive(Clone, Copy)]
 pub struct Vote {
     pub row: u32,
     pub ballot: u32,
@@ -21,7 +22,7 @@ pub struct Vote {
 }
 
 // A foreign post: a 1b, a 2av, a 2b, or another kind.
-#[derive(Drop)]
+#[derive(Clone, Copy)]
 pub enum Post {
     OneB(OneB),
     Relay(Vote),
@@ -30,7 +31,7 @@ pub enum Post {
 }
 
 // A step; the pair array of a foreign 1b travels beside it.
-#[derive(Drop)]
+#[derive(Clone, Copy)]
 pub enum Step {
     Scan {
         station: u32,

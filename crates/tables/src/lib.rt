@@ -1,4 +1,6 @@
 // Counts and lengths of a room, and the form of a house record: its tables, intake and marks.
+#![tactic(auto)]
+
 ghost use Rattle.std.specs.Prelude.{◌≡◌, true, ◌&&◌, [], ℕ, ◌^◌, ◌≤◌, ◌<◌, leb, ltb, length, get_or, take};
 ghost use Rattle.rules.specs.Tests.{all, distinct, fit, bit, count, first};
 ghost use Rattle.rules.specs.Words.{nodes_in, faulty_in, rows_in, capacity_in};
@@ -66,7 +68,7 @@ pub fn members(nodes: u8, set: u8) -> u32
 }
 
 // What the tables ask of a set: it names present nodes, it shares more than f of them with another, it has more than f.
-#[derive(Drop)]
+#[derive(Clone, Copy)]
 pub enum Asked {
     Present,
     Shares(u8),

@@ -1,4 +1,6 @@
 // What the board tells past the gate: a row that is asked, and the book.
+#![tactic(auto)]
+
 ghost use Rattle.std.specs.Prelude.{◌≡◌};
 ghost use Rattle.rules.specs.Tests.{first};
 ghost use Rattle.rules.specs.Lent.{memory, room_of, row_in};
@@ -12,7 +14,7 @@ pub mod tally; // tally.rt: a row's votes and what it came to
 pub mod booking; // booking.rt: the book's rows and the tubes that wait
 
 // What a row came to.
-#[derive(Drop)]
+#[derive(Clone, Copy)]
 pub enum RowTube {
     Unchosen,
     Agreed(rules::Tube),
@@ -20,7 +22,7 @@ pub enum RowTube {
 }
 
 // The tubes of the book's rows, how many rows it has, and why it stopped.
-#[derive(Drop)]
+#[derive(Clone, Copy)]
 pub struct Rows {
     pub tubes: [u8; 64],
     pub reach: u8,
@@ -28,7 +30,7 @@ pub struct Rows {
 }
 
 // What the book call tells: how many rows, how many waiting tubes, and why it stopped.
-#[derive(Drop)]
+#[derive(Clone, Copy)]
 pub struct Figures {
     pub rows: u8,
     pub waiting: u8,

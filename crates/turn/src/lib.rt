@@ -1,4 +1,6 @@
 // A line's turn once the room is open: the step that it asks for is taken, and its answer printed.
+#![tactic(auto)]
+
 ghost use Rattle.std.specs.Prelude.{◌+◌, ◌≤◌, length};
 ghost use Rattle.rules.specs.Lent.{memory};
 ghost use Rattle.page.specs.Sheet.{Heads, sheet_of, stepped};
@@ -8,7 +10,7 @@ use lines::Line;
 use rules::House;
 
 // The house record afterwards, and where the print ends.
-#[derive(Drop)]
+#[derive(Clone, Copy)]
 pub struct Told {
     pub house: House,
     pub end: usize,

@@ -1,4 +1,6 @@
 // The steps 2av and 2b of a node: what is answered, and what an accepted one does.
+#![tactic(auto)]
+
 ghost use Rattle.std.specs.Prelude.{◌≡◌};
 ghost use Rattle.rules.specs.Lent.{memory};
 ghost use Rattle.rules.specs.Steps.{c2av, c2b};

@@ -1,4 +1,6 @@
 // What an accepted step writes: one writer for each effect.
+#![tactic(auto)]
+
 pub mod act; // act.rt: what each accepted call does
 
 ghost use Rattle.std.specs.Prelude.{◌≡◌, suc, ◌+◌, ◌*◌, ◌≤◌, ◌<◌, length, set};

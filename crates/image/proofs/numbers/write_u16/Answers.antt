@@ -1,0 +1,13 @@
+-- Writing two bytes: the second behind the first.
+use mathlib.Core.List.{[], ◌∷◌}
+use Prim.Native.Nat.{◌+◌, ◌/◌, ◌%◌}
+use native.Mathlib.Omega.{arith}
+use Rattle.image.proofs.Writing.{then}
+use Rattle.image.proofs.numbers.write_u16.Goals as goal
+
+pub returns : goal.returns
+returns c =
+    let w = c.before.before in
+    let v = w.before.before.before.before in
+    let a = v.args in
+    then a.out.now (a.x % 256 ∷ []) (a.x / 256 ∷ []) a.at (a.at + 1) v.write_u8.ensures w.write_u8-2.ensures (omega arith) (omega arith)
