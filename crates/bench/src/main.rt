@@ -5,26 +5,35 @@
 ghost use Rattle.std.specs.Prelude.{◌+◌, ◌≤◌, length};
 
 use frame::{Asked, Found, Request};
-use libc::{STDIN_FILENO, STDOUT_FILENO};
+use std::io;
+use std::io::{ErrorKind, Read, Write};
 
 // Fills a list from the input, four bytes an entry; false where the input ends before.
-fn read_list(list: &mut [u32]) -> bool {
+fn read_list<R: Read>(input: &mut R, list: &mut [u32]) -> io::Result<bool> {
     let mut i: usize = 0;
     while i < list.len() {
         let mut entry = [0u8; 4];
-        if io::read_full(STDIN_FILENO, &mut entry) != 4 {
-            return false;
+        if !read_area(input, &mut entry)? {
+            return Ok(false);
         }
         list[i] = image::numbers::read_u32(&entry, 0);
         i += 1;
     }
-    true
+    Ok(true)
 }
 
 // Fills an area from the input; false where the input ends before.
-fn read_area(area: &mut [u8]) -> bool {
-    let n = area.len();
-    io::read_full(STDIN_FILENO, area) == n
+fn read_area<R: Read>(input: &mut R, area: &mut [u8]) -> io::Result<bool> {
+    match input.read_exact(area) {
+        Ok(()) => Ok(true),
+        Err(e) => {
+            if e.kind() == ErrorKind::UnexpectedEof {
+                Ok(false)
+            } else {
+                Err(e)
+            }
+        }
+    }
 }
 
 fn wide(x: u8) -> u64 {
@@ -179,37 +188,46 @@ fn work(
 }
 
 // The lists and the areas of the frame whose front was read, and then the work.
-fn rest(what: u8, times: u32, request: Request, call: Asked) {
+fn rest<R: Read, W: Write>(
+    input: &mut R,
+    output: &mut W,
+    what: u8,
+    times: u32,
+    request: Request,
+    call: Asked,
+) -> io::Result<()> {
     let mut quorums = [0u32; 56];
     let mut weaks = [0u32; 28];
     let mut given = [0u8; 60416];
-    if !read_list(&mut quorums) {
-        return;
+    if !read_list(input, &mut quorums)? {
+        return Ok(());
     }
-    if !read_list(&mut weaks) {
-        return;
+    if !read_list(input, &mut weaks)? {
+        return Ok(());
     }
-    if !read_area(&mut given) {
-        return;
+    if !read_area(input, &mut given)? {
+        return Ok(());
     }
     let sum = work(what, times, request, call, &quorums, &weaks, &given);
-    io::print_decimal(STDOUT_FILENO, sum);
+    write!(output, "{sum}")
 }
 
-fn main() {
+fn main(rt: HostRuntime) -> io::Result<()> {
+    let mut input = rt.stdin();
+    let mut output = rt.stdout();
     let mut order = [0u8; 5];
-    if io::read_full(STDIN_FILENO, &mut order) != 5 {
-        return;
+    if !read_area(&mut input, &mut order)? {
+        return Ok(());
     }
     let times = image::numbers::read_u32(&order, 1);
     let mut front = [0u8; 552];
-    if io::read_full(STDIN_FILENO, &mut front) != 552 {
-        return;
+    if !read_area(&mut input, &mut front)? {
+        return Ok(());
     }
     let request = frame::reading::request(&front);
     let arguments = request.arguments;
     let Found::Call(call) = frame::which::found(request.call, arguments) else {
-        return;
+        return Ok(());
     };
-    rest(order[0], times, request, call);
+    rest(&mut input, &mut output, order[0], times, request, call)
 }

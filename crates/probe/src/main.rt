@@ -4,60 +4,61 @@
 ghost use Rattle.std.specs.Prelude.{◌≡◌};
 
 use frame::{Asked, Found, Request, Served};
-use libc::{STDIN_FILENO, STDOUT_FILENO};
+use std::io;
+use std::io::{ErrorKind, Read, Write};
 
 // Fills a list from the input, four bytes an entry; false where the input ends before.
-fn read_list(list: &mut [u32]) -> bool {
+fn read_list<R: Read>(input: &mut R, list: &mut [u32]) -> io::Result<bool> {
     let mut i: usize = 0;
     while i < list.len() {
         let mut entry = [0u8; 4];
-        if io::read_full(STDIN_FILENO, &mut entry) != 4 {
-            return false;
+        if !read_area(input, &mut entry)? {
+            return Ok(false);
         }
         list[i] = image::numbers::read_u32(&entry, 0);
         i += 1;
     }
-    true
+    Ok(true)
 }
 
 // Fills an area from the input; false where the input ends before.
-fn read_area(area: &mut [u8]) -> bool {
-    let n = area.len();
-    io::read_full(STDIN_FILENO, area) == n
+fn read_area<R: Read>(input: &mut R, area: &mut [u8]) -> io::Result<bool> {
+    match input.read_exact(area) {
+        Ok(()) => Ok(true),
+        Err(e) => {
+            if e.kind() == ErrorKind::UnexpectedEof {
+                Ok(false)
+            } else {
+                Err(e)
+            }
+        }
+    }
 }
 
-fn write_reply(
+fn write_reply<W: Write>(
+    output: &mut W,
     served: Served,
     board: &[u8],
     cells: &[u8],
     heard: &[u8],
     book: &[u8],
     waiting: &[u8],
-) -> bool {
+) -> io::Result<()> {
     let answer = served.answer;
     let house = served.house;
     let mut front = [0u8; frame::REPLY];
     frame::writing::reply(answer, house, &mut front);
-    if !io::write_all(STDOUT_FILENO, &front) {
-        return false;
-    }
-    if !io::write_all(STDOUT_FILENO, board) {
-        return false;
-    }
-    if !io::write_all(STDOUT_FILENO, cells) {
-        return false;
-    }
-    if !io::write_all(STDOUT_FILENO, heard) {
-        return false;
-    }
-    if !io::write_all(STDOUT_FILENO, book) {
-        return false;
-    }
-    io::write_all(STDOUT_FILENO, waiting)
+    output.write_all(&front)?;
+    output.write_all(board)?;
+    output.write_all(cells)?;
+    output.write_all(heard)?;
+    output.write_all(book)?;
+    output.write_all(waiting)
 }
 
 // Fills the lists and the areas from the input; false where it ends before.
-fn read_rest(
+fn read_rest<R: Read>(
+    input: &mut R,
     quorums: &mut [u32],
     weaks: &mut [u32],
     board: &mut [u8],
@@ -65,30 +66,31 @@ fn read_rest(
     heard: &mut [u8],
     book: &mut [u8],
     waiting: &mut [u8],
-) -> bool {
-    if !read_list(quorums) {
-        return false;
+) -> io::Result<bool> {
+    if !read_list(input, quorums)? {
+        return Ok(false);
     }
-    if !read_list(weaks) {
-        return false;
+    if !read_list(input, weaks)? {
+        return Ok(false);
     }
-    if !read_area(board) {
-        return false;
+    if !read_area(input, board)? {
+        return Ok(false);
     }
-    if !read_area(cells) {
-        return false;
+    if !read_area(input, cells)? {
+        return Ok(false);
     }
-    if !read_area(heard) {
-        return false;
+    if !read_area(input, heard)? {
+        return Ok(false);
     }
-    if !read_area(book) {
-        return false;
+    if !read_area(input, book)? {
+        return Ok(false);
     }
-    read_area(waiting)
+    read_area(input, waiting)
 }
 
 // A frame that was read: its call is made, and the reply written.
-fn reply(
+fn reply<W: Write>(
+    output: &mut W,
     request: Request,
     call: Asked,
     quorums: &[u32],
@@ -98,17 +100,19 @@ fn reply(
     heard: &mut [u8],
     book: &mut [u8],
     waiting: &mut [u8],
-) -> bool {
+) -> io::Result<()> {
     let house = request.house;
     let pairs = request.pairs;
     let served = frame::serve(
         house, board, cells, heard, book, waiting, quorums, weaks, call, pairs,
     );
-    write_reply(served, board, cells, heard, book, waiting)
+    write_reply(output, served, board, cells, heard, book, waiting)
 }
 
 // The rest of a frame, whose lists and areas are as long as the parts handed over.
-fn answer(
+fn answer<R: Read, W: Write>(
+    input: &mut R,
+    output: &mut W,
     request: Request,
     call: Asked,
     quorums: &mut [u32],
@@ -118,13 +122,14 @@ fn answer(
     heard: &mut [u8],
     book: &mut [u8],
     waiting: &mut [u8],
-) -> bool {
-    if !read_rest(quorums, weaks, board, cells, heard, book, waiting) {
-        return false;
+) -> io::Result<bool> {
+    if !read_rest(input, quorums, weaks, board, cells, heard, book, waiting)? {
+        return Ok(false);
     }
     reply(
-        request, call, quorums, weaks, board, cells, heard, book, waiting,
-    )
+        output, request, call, quorums, weaks, board, cells, heard, book, waiting,
+    )?;
+    Ok(true)
 }
 
 fn size(n: u32) -> usize
@@ -134,7 +139,9 @@ fn size(n: u32) -> usize
 }
 
 // A frame whose front was read; false where it cannot be held.
-fn hold(
+fn hold<R: Read, W: Write>(
+    input: &mut R,
+    output: &mut W,
     request: Request,
     call: Asked,
     quorums: &mut [u32],
@@ -144,7 +151,7 @@ fn hold(
     heard: &mut [u8],
     book: &mut [u8],
     waiting: &mut [u8],
-) -> bool {
+) -> io::Result<bool> {
     let q = size(request.quorums);
     let w = size(request.weaks);
     let b = size(request.board);
@@ -153,27 +160,29 @@ fn hold(
     let k = size(request.book);
     let t = size(request.waiting);
     if q > quorums.len() {
-        return false;
+        return Ok(false);
     }
     if w > weaks.len() {
-        return false;
+        return Ok(false);
     }
     if b > board.len() {
-        return false;
+        return Ok(false);
     }
     if c > cells.len() {
-        return false;
+        return Ok(false);
     }
     if h > heard.len() {
-        return false;
+        return Ok(false);
     }
     if k > book.len() {
-        return false;
+        return Ok(false);
     }
     if t > waiting.len() {
-        return false;
+        return Ok(false);
     }
     answer(
+        input,
+        output,
         request,
         call,
         &mut quorums[..q],
@@ -187,7 +196,9 @@ fn hold(
 }
 
 // One frame; false where the input ends, its call is unknown, or it cannot be held.
-fn one_frame(
+fn one_frame<R: Read, W: Write>(
+    input: &mut R,
+    output: &mut W,
     quorums: &mut [u32],
     weaks: &mut [u32],
     board: &mut [u8],
@@ -195,23 +206,25 @@ fn one_frame(
     heard: &mut [u8],
     book: &mut [u8],
     waiting: &mut [u8],
-) -> bool {
+) -> io::Result<bool> {
     let mut front = [0u8; frame::REQUEST];
-    if io::read_full(STDIN_FILENO, &mut front) != frame::REQUEST {
-        return false;
+    if !read_area(input, &mut front)? {
+        return Ok(false);
     }
     let request = frame::reading::request(&front);
     let arguments = request.arguments;
     let Found::Call(call) = frame::which::found(request.call, arguments) else {
-        return false;
+        return Ok(false);
     };
     hold(
-        request, call, quorums, weaks, board, cells, heard, book, waiting,
+        input, output, request, call, quorums, weaks, board, cells, heard, book, waiting,
     )
 }
 
 // Frame after frame.
-fn run(
+fn run<R: Read, W: Write>(
+    input: &mut R,
+    output: &mut W,
     quorums: &mut [u32],
     weaks: &mut [u32],
     board: &mut [u8],
@@ -219,17 +232,20 @@ fn run(
     heard: &mut [u8],
     book: &mut [u8],
     waiting: &mut [u8],
-) {
-    let mut turns = u64::MAX;
-    while turns > 0 {
-        if !one_frame(quorums, weaks, board, cells, heard, book, waiting) {
-            return;
+) -> io::Result<()> {
+    for _ in 0..u64::MAX {
+        if !one_frame(
+            input, output, quorums, weaks, board, cells, heard, book, waiting,
+        )? {
+            return Ok(());
         }
-        turns -= 1;
     }
+    Ok(())
 }
 
-fn main() {
+fn main(rt: HostRuntime) -> io::Result<()> {
+    let mut input = rt.stdin();
+    let mut output = rt.stdout();
     let mut quorums = [0u32; 70];
     let mut weaks = [0u32; 70];
     let mut board = [0u8; 42000];
@@ -238,6 +254,8 @@ fn main() {
     let mut book = [0u8; 200];
     let mut waiting = [0u8; 200];
     run(
+        &mut input,
+        &mut output,
         &mut quorums,
         &mut weaks,
         &mut board,
@@ -245,5 +263,5 @@ fn main() {
         &mut heard,
         &mut book,
         &mut waiting,
-    );
+    )
 }

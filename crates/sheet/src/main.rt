@@ -3,11 +3,13 @@
 
 ghost use Rattle.std.specs.Prelude.{◌≤◌, length};
 
-use libc::{STDIN_FILENO, STDOUT_FILENO};
 use session::Session;
+use std::io;
+use std::io::{Read, Write};
 
 // One byte; a line's answer is printed when its newline comes.
-fn take_one(
+fn take_one<W: Write>(
+    output: &mut W,
     s: Session,
     b: u8,
     line: &mut [u8],
@@ -15,17 +17,18 @@ fn take_one(
     cells: &mut [u8],
     heard: &mut [u8],
     out: &mut [u8],
-) -> Session
+) -> io::Result<Session>
     requires in_bounds { 256 ≤ length line.old }
     requires in_bounds_2 { 68 ≤ length out.old }
 {
     let fed = session::take_byte(s, b, line, board, cells, heard, out);
-    io::write_all(STDOUT_FILENO, &out[..fed.wrote]);
-    fed.session
+    output.write_all(&out[..fed.wrote])?;
+    Ok(fed.session)
 }
 
 // The bytes of one part of the input.
-fn take_part(
+fn take_part<W: Write>(
+    output: &mut W,
     from: Session,
     part: &[u8],
     line: &mut [u8],
@@ -33,7 +36,7 @@ fn take_part(
     cells: &mut [u8],
     heard: &mut [u8],
     out: &mut [u8],
-) -> Session
+) -> io::Result<Session>
     requires part_len_bound { length part.now ≤ 4096 }
     requires in_bounds { 256 ≤ length line.old }
     requires in_bounds_2 { 68 ≤ length out.old }
@@ -41,10 +44,10 @@ fn take_part(
     let mut s = from;
     let mut i: usize = 0;
     while i < part.len() {
-        s = take_one(s, part[i], line, board, cells, heard, out);
+        s = take_one(output, s, part[i], line, board, cells, heard, out)?;
         i += 1;
     }
-    s
+    Ok(s)
 }
 
 // What one reading left: whether there may be more to read, and the sheet.
@@ -54,64 +57,76 @@ struct Turn {
     session: Session,
 }
 
-fn one_turn(
+fn one_turn<R: Read, W: Write>(
+    input: &mut R,
+    output: &mut W,
     s: Session,
     line: &mut [u8],
     board: &mut [u8],
     cells: &mut [u8],
     heard: &mut [u8],
     out: &mut [u8],
-) -> Turn
+) -> io::Result<Turn>
     requires in_bounds { 256 ≤ length line.old }
     requires in_bounds_2 { 68 ≤ length out.old }
 {
     let mut part = [0u8; 4096];
-    let got = libc::read(STDIN_FILENO, &mut part);
-    if got <= 0 {
-        return Turn {
+    let n = input.read(&mut part)?;
+    if n == 0 {
+        return Ok(Turn {
             more: false,
             session: s,
-        };
+        });
     }
-    let n = io::count(got, &part);
-    let after = take_part(s, &part[..n], line, board, cells, heard, out);
-    Turn {
+    let after = take_part(output, s, &part[..n], line, board, cells, heard, out)?;
+    Ok(Turn {
         more: true,
         session: after,
-    }
+    })
 }
 
 // The whole input, part by part.
-fn read_all(
+fn read_all<R: Read, W: Write>(
+    input: &mut R,
+    output: &mut W,
     line: &mut [u8],
     board: &mut [u8],
     cells: &mut [u8],
     heard: &mut [u8],
     out: &mut [u8],
-) -> Session
+) -> io::Result<Session>
     requires in_bounds { 256 ≤ length line.old }
     requires in_bounds_2 { 68 ≤ length out.old }
 {
     let mut s = session::begin();
-    let mut turns = u64::MAX;
-    while turns > 0 {
-        let t = one_turn(s, line, board, cells, heard, out);
+    for _ in 0..u64::MAX {
+        let t = one_turn(input, output, s, line, board, cells, heard, out)?;
         s = t.session;
         if !t.more {
-            return s;
+            return Ok(s);
         }
-        turns -= 1;
     }
-    s
+    Ok(s)
 }
 
-fn main() {
+fn main(rt: HostRuntime) -> io::Result<()> {
+    let mut input = rt.stdin();
+    let mut output = rt.stdout();
     let mut line = [0u8; 256];
     let mut board = [0u8; 40960];
     let mut cells = [0u8; 18432];
     let mut heard = [0u8; 1024];
     let mut out = [0u8; 16384];
-    let s = read_all(&mut line, &mut board, &mut cells, &mut heard, &mut out);
+    let s = read_all(
+        &mut input,
+        &mut output,
+        &mut line,
+        &mut board,
+        &mut cells,
+        &mut heard,
+        &mut out,
+    )?;
     let n = session::finish(s, &line, &mut board, &mut cells, &mut heard, &mut out);
-    io::write_all(STDOUT_FILENO, &out[..n]);
+    output.write_all(&out[..n])?;
+    Ok(())
 }
