@@ -219,7 +219,7 @@ def instructions(what, times, frame):
         source.write(struct.pack("<BI", what, times) + frame)
         source.flush()
         source.seek(0)
-        told = subprocess.run(["valgrind", "--tool=callgrind", "--callgrind-out-file=/dev/null", "target/bin/bench"],
+        told = subprocess.run(["valgrind", "--tool=callgrind", "--callgrind-out-file=/dev/null", "crates/bench/out/bench"],
                               stdin=source, stdout=subprocess.PIPE, stderr=subprocess.PIPE, text=True).stderr
     return int(told.split("Collected :")[1].split()[0])
 
@@ -230,7 +230,7 @@ def counted(frame):
 
 
 def can_count():
-    return shutil.which("valgrind") is not None and platform.machine() == "x86_64"
+    return shutil.which("valgrind") is not None
 
 
 # ---- beside the outside program -----------------------------------------------------------
@@ -339,8 +339,7 @@ def report():
     shift_line = (f"A shift of 60 rows, {steps:,} steps to a board of 1,020 messages: a step costs {ours / steps / reading:.2f} readings of the lent"
                   f" bytes on average. The outside program takes {theirs / ours:.2f} times as long as ours for the whole shift, starts left out.")
     print(shift_line)
-    emulated = "" if platform.machine() == "x86_64" else " Our programs ran under the kit's emulator, so only ratios between them mean anything."
-    where = (f"Machine: {machine()}.{emulated} One reading of the 60,416 lent bytes took {reading * 1e6:.1f} microseconds. "
+    where = (f"Machine: {machine()}. One reading of the 60,416 lent bytes took {reading * 1e6:.1f} microseconds. "
              f"Each figure is the median of {REPEATS} interleaved runs, in processor time.")
     print(where)
     picture(figures)
