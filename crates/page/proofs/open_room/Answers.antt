@@ -48,5 +48,5 @@ returns c =
     let g = c.well_formed.0.1.1.1.1 in search rules in
     started (heads_of c.args.h) (lent) _ _
     (c.held-listed.ensures.by_index c.args.h.quorums (quorums_long)) (c.held-backers.ensures.by_index c.args.h.weaks (weaks_long))
-    _ _ c.«open».ensures _ _ (ap (λ (x : Answer). x.number) c.in_numbers-answer.ensures) c.due_after.ensures
+    _ _ c.open-opening.ensures _ _ (ap (λ (x : Answer). x.number) c.in_numbers-answer.ensures) c.due_after.ensures
     _ c.due_now-heads.ensures
