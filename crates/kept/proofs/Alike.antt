@@ -22,9 +22,12 @@ use Rattle.kept.proofs.Open.{begun}
 
 -- ---- past the gate
 
+is_true : (a : Bool) → T a → a ≡ true
+is_true true t = refl
+is_true false t = absurd t
+
 gate-passed : (a b d f : Bool) (x : ℕ) → T a → T b → T f → pick a (pick (b && d) (pick f x 17) 5) 17 ≡ pick d x 5
-gate-passed true true true true x s t u = refl
-gate-passed true true false true x s t u = refl
+gate-passed a b d f x s t u = rw (is_true a s, is_true b t, is_true f u)
 
 -- of memory in form only the book's areas and the rules are left to test
 pub left : (m : Memory) (c : Call) → Whole m → reply m c ≡ pick (areas m.house c) (first (rules (room_of m.house) (read m) c)) 5

@@ -15,7 +15,7 @@ pub mod trying; // trying.rt: the form that a line has
 
 // The next place of a byte in a text, if there is one.
 #[derive(Clone, Copy)]
-enum End {
+pub enum End {
     At(usize),
     Open,
 }
@@ -62,7 +62,7 @@ enum Couple {
 
 // The pairs of a foreign 1b: whether the text was well formed, how many there are, and the first sixteen.
 #[derive(Clone, Copy)]
-struct Pairs {
+pub struct Pairs {
     whole: bool,
     count: usize,
     pairs: [u32; 32],
@@ -70,7 +70,7 @@ struct Pairs {
 
 // The form that a line has, numbered from 1 (0: none), its numbers, and its pairs.
 #[derive(Clone, Copy)]
-struct Fields {
+pub struct Fields {
     form: u8,
     numbers: [u32; 5],
     count: usize,

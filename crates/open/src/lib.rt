@@ -4,7 +4,7 @@
 ghost use Rattle.std.specs.Prelude.{◌≡◌};
 ghost use Rattle.rules.specs.Lent.{memory};
 ghost use Rattle.rules.specs.Replies.{answer_of, open_reply, Opened};
-ghost use Rattle.rules.specs.declared.House as house-record;
+ghost use Rattle.rules.specs.declared.House as house_record;
 ghost use Rattle.open.specs.Room.{room};
 
 use rules::{House, Reply};
@@ -64,7 +64,7 @@ fn judge_open(
     quorums: &[u32],
     weaks: &[u32],
 ) -> u8
-    ensures { (h : house-record.House) → result ≡ open_reply (room nodes faulty rows capacity quorums.now weaks.now) (memory h board.now cells.now heard.now) }
+    ensures { (h : house_record.House) → result ≡ open_reply (room nodes faulty rows capacity quorums.now weaks.now) (memory h board.now cells.now heard.now) }
 {
     if !room::counts_in(nodes, faulty, rows, capacity, quorums, weaks) {
         return 1;

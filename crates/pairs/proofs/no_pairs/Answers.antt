@@ -15,7 +15,7 @@ overflow_add-sum c =
     let fits : Fits w8 (get_or c.args.pairs c.loop-i.i 0) =
     search rules in
     let low : get_or c.args.pairs c.loop-i.i 0 < 256 =
-    (fits).ranges in
+    fits.fits in
     omega (arith, low)
 
 pub loop-i-preserved : goal.loop-i-preserved
@@ -23,7 +23,7 @@ loop-i-preserved c =
     let fits : Fits w8 (get_or c.args.pairs c.loop-i.i 0) =
     search rules in
     let low : get_or c.args.pairs c.loop-i.i 0 < 256 =
-    (fits).ranges in
+    fits.fits in
     let a = c.args in
     let len : length a.pairs ≡ 32 = search rules in
     let next = total_from a.pairs c.loop-i.i (omega arith) in

@@ -1,10 +1,10 @@
 -- Reading the serials: each turn takes one more, four bytes of every five.
 use mathlib.Core.Path.{◌≡◌, ap, sym, ◌∙◌}
 use Rattle.image.proofs.Writing.{one_more, four-drop}
-use Prim.Native.Nat.{◌-◌, ◌*◌, ◌+◌}
+use Prim.Native.Nat.{◌*◌, ◌+◌}
 use native.Mathlib.Numerals.{add-one}
 use native.Mathlib.Omega.{arith}
-use lib.ListN.{length, drop, length-set}
+use lib.ListN.{drop, length-set}
 use lib.Seq.{take_all}
 use Rattle.image.specs.Image.{serials_at, four_at}
 use Rattle.image.proofs.tables.read_serials.Goals as goal

@@ -1,9 +1,9 @@
 -- Reading the stations: each turn takes one more, every fifth byte.
-use Prim.Native.Nat.{◌-◌, ◌*◌, ◌+◌}
+use Prim.Native.Nat.{◌*◌, ◌+◌}
 use mathlib.Core.Path.{◌≡◌, sym, ◌∙◌}
 use native.Mathlib.Numerals.{add-one}
 use native.Mathlib.Omega.{arith}
-use lib.ListN.{length, drop, get_or, length-set}
+use lib.ListN.{drop, get_or, length-set}
 use lib.Seq.{take_all, get_or-drop}
 use Rattle.image.specs.Image.{stations_at}
 use Rattle.image.proofs.Writing.{one_more}

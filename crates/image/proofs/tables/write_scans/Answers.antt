@@ -1,11 +1,11 @@
 -- Writing the scans: each turn writes one behind the others.
 use borrow.Author.Rules.{rules}
 use mathlib.Core.List.{◌∷◌}
-use Prim.Native.Nat.{◌-◌, ◌*◌, ◌+◌}
+use Prim.Native.Nat.{◌*◌, ◌+◌}
 use mathlib.Core.Path.{◌≡◌, refl, ◌∙◌}
 use native.Mathlib.Numerals.{add-one}
 use native.Mathlib.Omega.{arith}
-use lib.ListN.{length, get_or}
+use lib.ListN.{get_or}
 use Rattle.image.specs.Image.{four, scans}
 use Rattle.image.proofs.Writing.{none_yet, then, length-scans}
 use Rattle.image.proofs.tables.write_scans.Goals as goal

@@ -1,0 +1,19 @@
+-- Whether a 1a is on the board: it is made and looked for.
+use mathlib.Core.Path.{ap, ◌∙◌}
+use Rattle.rules.specs.Words.{Msg, m1a}
+use Rattle.rules.specs.Lent.{stored, board_of}
+use Rattle.rules.specs.Steps.{has}
+use Rattle.board.proofs.Bytes.{own-stored, means_stored}
+use Rattle.board.proofs.has_1a.Goals as goal
+
+pub on_board-requires : goal.on_board-requires
+unfolding stored
+on_board-requires c =
+    let a = c.args in
+    record { plain = c.requires; own = own-stored (m1a a.row.0 a.ballot.0) _ tt c.bare-m.ensures }
+
+pub returns : goal.returns
+unfolding stored
+returns c =
+    let a = c.args in
+    c.on_board.ensures ∙ ap (λ (x : Msg). has x (board_of a.board.now a.n)) (means_stored (m1a a.row.0 a.ballot.0) _ tt c.bare-m.ensures)

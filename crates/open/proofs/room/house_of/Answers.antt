@@ -1,0 +1,33 @@
+-- Each number fits its field, and each list its table.
+use native.Mathlib.Omega.{arith}
+use Rattle.open.proofs.Housed.{sizes, bytes}
+use Rattle.open.proofs.room.house_of.Goals as goal
+
+pub narrowed-q-requires : goal.narrowed-q-requires
+narrowed-q-requires c =
+    record { sets_len_bound = (sizes c.requires).quorums; by_index = bytes c.requires c.args.quorums.now c.requires.quorums }
+
+pub narrowed-w-requires : goal.narrowed-w-requires
+narrowed-w-requires c =
+    record { sets_len_bound = (sizes c.requires).weaks; by_index = bytes c.requires c.args.weaks.now c.requires.weaks }
+
+pub overflow_cast-result : goal.overflow_cast-result
+overflow_cast-result c = let z = sizes c.requires in omega arith
+
+pub overflow_cast-result-2 : goal.overflow_cast-result-2
+overflow_cast-result-2 c = let z = sizes c.requires in omega arith
+
+pub overflow_cast-result-3 : goal.overflow_cast-result-3
+overflow_cast-result-3 c = let z = sizes c.requires in omega arith
+
+pub overflow_cast-result-4 : goal.overflow_cast-result-4
+overflow_cast-result-4 c = let z = sizes c.requires in omega arith
+
+pub overflow_cast-result-5 : goal.overflow_cast-result-5
+overflow_cast-result-5 c = let z = sizes c.requires in omega arith
+
+pub overflow_cast-result-6 : goal.overflow_cast-result-6
+overflow_cast-result-6 c = let z = sizes c.requires in omega arith
+
+pub returns : goal.returns
+returns c = rw (c.narrowed-q.ensures, c.narrowed-w.ensures)

@@ -1,0 +1,76 @@
+-- Sending a 2av: the struct read from the cell, with the ballot and the moved pairs, is how the room's next cell is stored.
+use Prim.Native.Nat.{ℕ, suc, ◌<◌}
+use mathlib.Core.Path.{◌≡◌, refl, sym, subst}
+use mathlib.Core.List.{List, [], ◌∷◌, ◌++◌}
+use lib.ListN.{length}
+use Rattle.pairs.specs.Pairs.{Packed}
+use Rattle.rules.specs.Words.{Pair, m2av}
+use Rattle.rules.specs.Lent.{Memory, memory, stored, pairs_of, stored_cell, read}
+use Rattle.rules.specs.Steps.{c2av, without}
+use Rattle.rules.specs.Replies.{reply}
+use Rattle.kept.specs.Kept.{Whole}
+use Rattle.vote.proofs.Seat.{reachable, own-cell, own_pairs, few}
+use Rattle.vote.proofs.Acts.{Acts, accepted, may_post, sent, acted, relay_room}
+use Rattle.vote.proofs.act_2av.Goals as goal
+
+-- what an accepted call of this kind does to the message and the cell
+abbrev Step : Memory → (r n b v : ℕ) → Type 0
+Step m r n b v = let o = (read m).cells r n in
+    Acts m (c2av r n b v) (m2av r b n v) r n
+    (record { max_bal = suc b; max_vbal = o.max_vbal; max_vval = o.max_vval; pairs = without v o.pairs ++ ((v, b) ∷ []) })
+
+step : (m : Memory) (r n b v : ℕ) → Whole m → reply m (c2av r n b v) ≡ 0 → Step m r n b v
+step m r n b v w t = accepted m _ _ _ _ _ w t refl
+
+pub post-out-requires : goal.post-out-requires
+unfolding stored
+post-out-requires c =
+    let a = c.args in
+    let m = memory a.h a.board.now a.cells.now a.heard.now in
+    let s = step m a.row.0 a.node.0 a.ballot.0 a.tube.0 c.requires.whole c.requires.tube_value in
+    may_post s _ c.bare-m.ensures
+
+pub place-k-requires : goal.place-k-requires
+place-k-requires c =
+    let a = c.args in
+    let m = memory a.h a.board.now a.cells.now a.heard.now in
+    let s = step m a.row.0 a.node.0 a.ballot.0 a.tube.0 c.requires.whole c.requires.tube_value in
+    s.seat.low
+
+pub cell_at-c-requires : goal.cell_at-c-requires
+cell_at-c-requires c =
+    let a = c.args in
+    let m = memory a.h a.board.now a.cells.now a.heard.now in
+    let s = step m a.row.0 a.node.0 a.ballot.0 a.tube.0 c.requires.whole c.requires.tube_value in
+    let lies = reachable s.whole s.seat _ c.place-k.ensures in
+    record { k_bound = lies.0; k_in_bounds = lies.1 }
+
+pub moved-sent-requires : goal.moved-sent-requires
+moved-sent-requires c =
+    let a = c.args in
+    let m = memory a.h a.board.now a.cells.now a.heard.now in
+    let s = step m a.row.0 a.node.0 a.ballot.0 a.tube.0 c.requires.whole c.requires.tube_value in
+    let pairs : pairs_of c.cell_at-c.result.count c.cell_at-c.result.pairs ≡ ((read m).cells a.row.0 a.node.0).pairs = own_pairs s.whole s.seat _ c.place-k.ensures _ c.cell_at-c.ensures in
+    record {
+      count_bound = few c.requires.whole s.seat _ c.place-k.ensures _ c.cell_at-c.ensures;
+      pairs_len_bound = subst (λ (l : List Pair). length (without a.tube.0 l) < 16) (sym pairs) (relay_room m a.row.0 a.node.0 a.ballot.0 a.tube.0 c.requires.whole c.requires.tube_value);
+    }
+
+pub set_cell-requires : goal.set_cell-requires
+set_cell-requires c =
+    let a = c.args in
+    let m = memory a.h a.board.now a.cells.now a.heard.now in
+    let s = step m a.row.0 a.node.0 a.ballot.0 a.tube.0 c.requires.whole c.requires.tube_value in
+    let lies = reachable s.whole s.seat _ c.place-k.ensures in
+    record { k_bound = lies.0; k_in_bounds = lies.1 }
+
+pub returns : goal.returns
+unfolding stored
+returns c =
+    let a = c.args in
+    let m = memory a.h a.board.now a.cells.now a.heard.now in
+    let s = step m a.row.0 a.node.0 a.ballot.0 a.tube.0 c.requires.whole c.requires.tube_value in
+    let own : c.cell_at-c.result ≡ stored_cell ((read m).cells a.row.0 a.node.0) = own-cell s.whole s.seat _ c.place-k.ensures _ c.cell_at-c.ensures in
+    let pairs : pairs_of c.cell_at-c.result.count c.cell_at-c.result.pairs ≡ ((read m).cells a.row.0 a.node.0).pairs = own_pairs s.whole s.seat _ c.place-k.ensures _ c.cell_at-c.ensures in
+    let packed = subst (λ (l : List Pair). Packed (without a.tube.0 l ++ ((a.tube.0, a.ballot.0) ∷ [])) c.moved-sent.result.count c.moved-sent.result.pairs) pairs c.moved-sent.ensures in
+    acted s _ _ _ _ _ _ c.bare-m.ensures c.place-k.ensures (sent _ ((read m).cells a.row.0 a.node.0) own a.ballot.0 _ _ _ packed) c.post-out.ensures c.set_cell.ensures
