@@ -9,7 +9,7 @@ use Prim.Native.Nat.{ℕ, suc, ◌<◌}
 use native.Mathlib.Decide.{ℕ_discrete}
 use native.Mathlib.Omega.{arith}
 use lib.Dec.{T, eqb, leb, ltb, leb→le, ltb→lt, eqb→eq, eqb_refl}
-use Rattle.rules.specs.Tests.{pick, any, all, any_below, bit, all_in, first}
+use Rattle.rules.specs.Tests.{pick, any, any_below, bit, all_in, first}
 use Rattle.rules.specs.Words.{Pair, Msg, m1a, m1b, m1c, m2av, m2b, Cell, Room, State}
 use Rattle.rules.specs.Steps.{Post, p1b, p2av, p2b, other, Call, scan, c1a, c1b, c1c, c2av, c2b, hear, foreign, ask, book, told, without, posted, poster, covers, is2av, is2b, relayed, chosen, heard_from, tells, empty, low, reaches, shown, known, acts, effect, add, put}
 use Rattle.rules.specs.Replies.{fields, rules}

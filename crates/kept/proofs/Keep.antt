@@ -13,7 +13,7 @@ use lib.Dec.{T, eqb, ltb, ltb→lt, lt→ltb}
 use lib.ListN.{length, take}
 use Rattle.rules.specs.Tests.{all, all_below, distinct, eqs, first}
 use Rattle.rules.specs.Words.{Msg, same_msg, Cell, Room}
-use Rattle.rules.specs.Lent.{Memory, window, patch, bytes_of, stored, board_of, encode, cell_at, meaning_cell, stored_cell, flatten, place, heard_at, set_bit, house, marked, room_of, read, tables, plain_msg, good_msg, plain_cell, good_cell, cell_form, is_1b_at, same_scan, house_form, board_form, cells_form, bit_form, heard_form}
+use Rattle.rules.specs.Lent.{Memory, window, patch, bytes_of, stored, board_of, encode, cell_at, meaning_cell, stored_cell, flatten, place, heard_at, set_bit, marked, room_of, read, tables, plain_msg, good_msg, plain_cell, good_cell, cell_form, is_1b_at, same_scan, house_form, board_form, cells_form, bit_form, heard_form}
 use Rattle.rules.specs.Steps.{has, scanned_in, Effect, stays, scans, sends, acts, hears, posts, post, write_cell, write}
 use Rattle.rules.proofs.Sound.{and_l, and_r, or_cases, or_l, or_r, and_two}
 use Rattle.rules.proofs.Area.{patch_same, patch-below, patch_above, cell-put, cell-kept}

@@ -20,12 +20,11 @@ abbrev tag : Line → ℕ
 tag l = tag_of (declared read_line.enum) l
 
 -- no step
-pub took_none : (h : Heads) (m : Memory) (l : Line) (p : List ℕ) {s s' : List ℕ} {at end : ℕ} → (tag l ≡ 0) ⊎ (tag l ≡ 2)
+pub took_none : (h : Heads) (m : Memory) (l : Line) (p : List ℕ) {s s' : List ℕ} {at end : ℕ} → ((x : steps.Step) → l ≡ Step x → ⊥)
     → Wrote s at malformed end s' → Took (stepped h m l p) (sheet_of h m) s at end s'
 took_none h m (Heading x) p k w = record { keeps = refl; prints = w }
 took_none h m Bad p k w = record { keeps = refl; prints = w }
-took_none h m (Step x) p (inl e) w = absurd (omega arith)
-took_none h m (Step x) p (inr e) w = absurd (omega arith)
+took_none h m (Step x) p k w = absurd (k x refl)
 
 -- the step x, with the print b of its answer a
 pub took_step : (h : Heads) (m : Memory) {l : Line} {x : steps.Step} (p : List ℕ) {a b : Answer} {n : Memory} {s s' : List ℕ} {at end : ℕ} → l ≡ Step x
