@@ -16,8 +16,6 @@ use Rattle.closing.specs.Given.{Wrote}
 use Rattle.page.specs.Sheet.{Heads, sheet_of, malformed, answer_print, stepped}
 use Rattle.turn.specs.Given.{Took}
 
-abbrev tag : Line → ℕ
-tag l = tag_of (declared read_line.enum) l
 
 -- no step
 pub took_none : (h : Heads) (m : Memory) (l : Line) (p : List ℕ) {s s' : List ℕ} {at end : ℕ} → ((x : steps.Step) → l ≡ Step x → ⊥)
