@@ -1,5 +1,5 @@
 -- When a message is none of those before it, and a table of slots to look for it in.
-use Rattle.std.specs.Prelude.{◌≡◌, Bool, false, not, List, [], ◌∷◌, ℕ, suc, ◌+◌, ◌-◌, ◌*◌, ◌%◌, ◌≤◌, ◌<◌, length, get_or}
+use Rattle.std.specs.Prelude.{◌≡◌, Bool, false, not, List, ℕ, suc, ◌+◌, ◌-◌, ◌*◌, ◌%◌, ◌≤◌, ◌<◌, length, get_or}
 use Rattle.rules.specs.Tests.{all_below, eqs}
 use Rattle.rules.specs.Lent.{window}
 

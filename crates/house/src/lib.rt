@@ -1,4 +1,4 @@
-// The house record where it stands, lent by its owner: thin functions, walked by hand.
+// The house record where it stands, lent by its owner: thin functions on one field each.
 #![tactic(auto)]
 
 ghost use Rattle.std.specs.Prelude.{◌≡◌, ◌+◌, ◌<◌, ◌^◌};

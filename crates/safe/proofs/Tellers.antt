@@ -14,7 +14,7 @@ use lib.Seq.{get_or-set_same, get_or-set_other}
 use Rattle.rules.specs.Tests.{pick, any, any_below, fit, bit}
 use Rattle.rules.specs.Words.{height_of, Pair, Msg, m1a, m1b, m1c, m2av, m2b, kind_of, Room}
 use Rattle.rules.specs.Lent.{memory, read, room_of, pairs_of, meaning, msg_at, board_of, heard_at, heard_of}
-use Rattle.rules.specs.Steps.{low, shown, reaches, tells, heard_from, full, covers, known}
+use Rattle.rules.specs.Steps.{shown, reaches, tells, heard_from, full, covers, known}
 use Rattle.rules.specs.declared.House.{House}
 use Rattle.rules.specs.declared.Message.{Message}
 use Rattle.rules.proofs.Codec.{or_no, any_last, length_board}

@@ -1,21 +1,16 @@
 -- A line's turn by what it asks for: a step is taken and answered, anything else is malformed.
 use mathlib.Core.Path.{◌≡◌, refl, sym, ap, subst, ◌∙◌}
 use mathlib.Core.List.{List}
-use mathlib.Core.Logic.{◌⊎◌, inl, inr}
 use Prim.Native.Nat.{ℕ}
-use native.Mathlib.Omega.{arith}
-use denote.Enum.Declared.{tag_of, declared}
 use Rattle.rules.specs.Lent.{Memory}
 use Rattle.rules.specs.Replies.{Answer, Did}
 use Rattle.step.specs.Given.{call_of}
 use Rattle.step.specs.declared.Step as steps
 use Rattle.lines.specs.declared.Line.{Line}
 use Rattle.lines.specs.declared.Line.TheVariants.{Heading, Step, Bad}
-use Rattle.lines.specs.contracts.Line as read_line
 use Rattle.closing.specs.Given.{Wrote}
 use Rattle.page.specs.Sheet.{Heads, sheet_of, malformed, answer_print, stepped}
 use Rattle.turn.specs.Given.{Took}
-
 
 -- no step
 pub took_none : (h : Heads) (m : Memory) (l : Line) (p : List ℕ) {s s' : List ℕ} {at end : ℕ} → ((x : steps.Step) → l ≡ Step x → ⊥)

@@ -1,9 +1,7 @@
 -- Comparing two slices: the bytes passed are the same, so at the end all are, and the first that differs parts them.
-use Prim.Native.Nat.{◌-◌}
 use mathlib.Core.Path.{sym, ◌∙◌}
 use native.Mathlib.Omega.{arith}
 use native.Mathlib.Numerals.{add-one}
-use lib.ListN.{take}
 use lib.Seq.{take-suc, take_all}
 use Rattle.rules.proofs.Scan.{eqs_same, eqs_differ}
 use Rattle.board.proofs.same_bytes.Goals as goal

@@ -1,5 +1,4 @@
 -- The voters of the messages passed are gathered.
-use Prim.Native.Nat.{◌-◌}
 use mathlib.Core.Path.{◌≡◌, refl, sym, ◌∙◌}
 use mathlib.Core.Bool.{◌||◌}
 use native.Mathlib.Omega.{arith}

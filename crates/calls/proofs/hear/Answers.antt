@@ -19,9 +19,9 @@ refused-requires c =
     let a = c.args in memory a.house a.board.now a.cells.now a.heard.now in
     let call : Call =
     steps.hear c.args.node c.args.number in
-    let stopped : reply (lent) (call) ≡ c.gate-found.result =
+    let stopped : reply lent call ≡ c.gate-found.result =
     at-gate _ _ _ c.gate-found.ensures c.if-found-ne0.true in
-    let parts = named _ _ _ (stopped) c.if-found-ne0.true in record { le_k = parts.0; k_bound = parts.1 }
+    let parts = named _ _ _ stopped c.if-found-ne0.true in record { le_k = parts.0; k_bound = parts.1 }
 
 pub returns-then-found-ne0 : goal.returns-then-found-ne0
 returns-then-found-ne0 c =
@@ -29,9 +29,9 @@ returns-then-found-ne0 c =
     let a = c.args in memory a.house a.board.now a.cells.now a.heard.now in
     let call : Call =
     steps.hear c.args.node c.args.number in
-    let stopped : reply (lent) (call) ≡ c.gate-found.result =
+    let stopped : reply lent call ≡ c.gate-found.result =
     at-gate _ _ _ c.gate-found.ensures c.if-found-ne0.true in
-    refused _ _ _ (stopped) c.if-found-ne0.true c.refused.ensures
+    refused _ _ _ stopped c.if-found-ne0.true c.refused.ensures
 
 pub judge_hear-k-requires : goal.judge_hear-k-requires
 judge_hear-k-requires c =
@@ -41,10 +41,10 @@ judge_hear-k-requires c =
     steps.hear c.args.node c.args.number in
     let typed : Typed c.args.house =
     let g = c.well_formed.0.1.1.1.1.1.1.1.1.1 in record { stations = search rules; serials = search rules } in
-    let gated : let b = c in first (gate (lent) (call)) ≡ 0 =
+    let gated : first (gate lent call) ≡ 0 =
     sym c.gate-found.ensures ∙ c.if-found-ne0.false in
-    let whole : Whole (lent) =
-    let b = c in past (lent) (call) (typed) (gated) in
+    let whole : Whole lent =
+    past lent call typed gated in
     whole
 
 pub refused-requires-then-k-ne0 : goal.refused-requires-then-k-ne0
@@ -53,11 +53,11 @@ refused-requires-then-k-ne0 c =
     let a = c.args in memory a.house a.board.now a.cells.now a.heard.now in
     let call : Call =
     steps.hear c.args.node c.args.number in
-    let gated : first (gate (lent) (call)) ≡ 0 =
+    let gated : first (gate lent call) ≡ 0 =
     sym c.gate-found.ensures ∙ c.if-found-ne0.false in
-    let judged : reply (lent) (call) ≡ c.judge_hear-k.result =
-    by_judge _ _ _ (gated) c.judge_hear-k.ensures in
-    let parts = named _ _ _ (judged) c.if-k-ne0.true in record { le_k = parts.0; k_bound = parts.1 }
+    let judged : reply lent call ≡ c.judge_hear-k.result =
+    by_judge _ _ _ gated c.judge_hear-k.ensures in
+    let parts = named _ _ _ judged c.if-k-ne0.true in record { le_k = parts.0; k_bound = parts.1 }
 
 pub returns-then-k-ne0 : goal.returns-then-k-ne0
 returns-then-k-ne0 c =
@@ -65,11 +65,11 @@ returns-then-k-ne0 c =
     let a = c.args in memory a.house a.board.now a.cells.now a.heard.now in
     let call : Call =
     steps.hear c.args.node c.args.number in
-    let gated : first (gate (lent) (call)) ≡ 0 =
+    let gated : first (gate lent call) ≡ 0 =
     sym c.gate-found.ensures ∙ c.if-found-ne0.false in
-    let judged : reply (lent) (call) ≡ c.judge_hear-k.result =
-    by_judge _ _ _ (gated) c.judge_hear-k.ensures in
-    refused _ _ _ (judged) c.if-k-ne0.true c.refused-then-k-ne0.ensures
+    let judged : reply lent call ≡ c.judge_hear-k.result =
+    by_judge _ _ _ gated c.judge_hear-k.ensures in
+    refused _ _ _ judged c.if-k-ne0.true c.refused-then-k-ne0.ensures
 
 pub overflow_cast-node : goal.overflow_cast-node
 unfolding fields
@@ -80,17 +80,16 @@ overflow_cast-node c =
     steps.hear c.args.node c.args.number in
     let typed : Typed c.args.house =
     let g = c.well_formed.0.1.1.1.1.1.1.1.1.1 in record { stations = search rules; serials = search rules } in
-    let gated : let b = c in first (gate (lent) (call)) ≡ 0 =
+    let gated : first (gate lent call) ≡ 0 =
     sym c.gate-found.ensures ∙ c.if-found-ne0.false in
-    let judged : reply (lent) (call) ≡ c.judge_hear-k.result =
-    by_judge _ _ _ (gated) c.judge_hear-k.ensures in
-    let accepted : let b = c in reply (lent) (call) ≡ 0 =
+    let judged : reply lent call ≡ c.judge_hear-k.result =
+    by_judge _ _ _ gated c.judge_hear-k.ensures in
+    let accepted : reply lent call ≡ 0 =
     judged ∙ c.if-k-ne0.false in
     let small : let a = c.args in (a.node < a.house.nodes) × (a.number < 1024) =
-    let b = c in
-    let a = b.args in
-    let p = passed (lent) (call) (typed) (accepted) in
-    ready (lent) (call) p in
+    let a = c.args in
+    let p = passed lent call typed accepted in
+    ready lent call p in
     omega (arith, small)
 
 pub overflow_cast-number : goal.overflow_cast-number
@@ -102,17 +101,16 @@ overflow_cast-number c =
     steps.hear c.args.node c.args.number in
     let typed : Typed c.args.house =
     let g = c.well_formed.0.1.1.1.1.1.1.1.1.1 in record { stations = search rules; serials = search rules } in
-    let gated : let b = c in first (gate (lent) (call)) ≡ 0 =
+    let gated : first (gate lent call) ≡ 0 =
     sym c.gate-found.ensures ∙ c.if-found-ne0.false in
-    let judged : reply (lent) (call) ≡ c.judge_hear-k.result =
-    by_judge _ _ _ (gated) c.judge_hear-k.ensures in
-    let accepted : let b = c in reply (lent) (call) ≡ 0 =
+    let judged : reply lent call ≡ c.judge_hear-k.result =
+    by_judge _ _ _ gated c.judge_hear-k.ensures in
+    let accepted : reply lent call ≡ 0 =
     judged ∙ c.if-k-ne0.false in
     let small : let a = c.args in (a.node < a.house.nodes) × (a.number < 1024) =
-    let b = c in
-    let a = b.args in
-    let p = passed (lent) (call) (typed) (accepted) in
-    ready (lent) (call) p in
+    let a = c.args in
+    let p = passed lent call typed accepted in
+    ready lent call p in
     omega (arith, small)
 
 pub act_hear-requires : goal.act_hear-requires
@@ -123,13 +121,13 @@ act_hear-requires c =
     steps.hear c.args.node c.args.number in
     let typed : Typed c.args.house =
     let g = c.well_formed.0.1.1.1.1.1.1.1.1.1 in record { stations = search rules; serials = search rules } in
-    let gated : let b = c in first (gate (lent) (call)) ≡ 0 =
+    let gated : first (gate lent call) ≡ 0 =
     sym c.gate-found.ensures ∙ c.if-found-ne0.false in
-    let whole : Whole (lent) =
-    let b = c in past (lent) (call) (typed) (gated) in
-    let judged : reply (lent) (call) ≡ c.judge_hear-k.result =
-    by_judge _ _ _ (gated) c.judge_hear-k.ensures in
-    let accepted : let b = c in reply (lent) (call) ≡ 0 =
+    let whole : Whole lent =
+    past lent call typed gated in
+    let judged : reply lent call ≡ c.judge_hear-k.result =
+    by_judge _ _ _ gated c.judge_hear-k.ensures in
+    let accepted : reply lent call ≡ 0 =
     judged ∙ c.if-k-ne0.false in
     record { whole = whole; number_value = accepted }
 
@@ -140,10 +138,10 @@ returns c =
     let a = c.args in memory a.house a.board.now a.cells.now a.heard.now in
     let call : Call =
     steps.hear c.args.node c.args.number in
-    let gated : let b = c in first (gate (lent) (call)) ≡ 0 =
+    let gated : first (gate lent call) ≡ 0 =
     sym c.gate-found.ensures ∙ c.if-found-ne0.false in
-    let judged : reply (lent) (call) ≡ c.judge_hear-k.result =
-    by_judge _ _ _ (gated) c.judge_hear-k.ensures in
-    let accepted : let b = c in reply (lent) (call) ≡ 0 =
+    let judged : reply lent call ≡ c.judge_hear-k.result =
+    by_judge _ _ _ gated c.judge_hear-k.ensures in
+    let accepted : reply lent call ≡ 0 =
     judged ∙ c.if-k-ne0.false in
-    let d = c.before.before in done _ _ (accepted) refl d.act_hear.ensures
+    done _ _ accepted refl c.act_hear.ensures

@@ -24,9 +24,9 @@ refused-requires c =
     let a = c.args in memory a.house a.board.now a.cells.now a.heard.now in
     let call : Call =
     steps.scan c.args.station c.args.serial in
-    let stopped : reply (lent) (call) ≡ c.gate-found.result =
+    let stopped : reply lent call ≡ c.gate-found.result =
     at-gate _ _ _ c.gate-found.ensures c.if-found-ne0.true in
-    let parts = named _ _ _ (stopped) c.if-found-ne0.true in record { le_k = parts.0; k_bound = parts.1 }
+    let parts = named _ _ _ stopped c.if-found-ne0.true in record { le_k = parts.0; k_bound = parts.1 }
 
 pub returns-then-found-ne0 : goal.returns-then-found-ne0
 returns-then-found-ne0 c =
@@ -34,9 +34,9 @@ returns-then-found-ne0 c =
     let a = c.args in memory a.house a.board.now a.cells.now a.heard.now in
     let call : Call =
     steps.scan c.args.station c.args.serial in
-    let stopped : reply (lent) (call) ≡ c.gate-found.result =
+    let stopped : reply lent call ≡ c.gate-found.result =
     at-gate _ _ _ c.gate-found.ensures c.if-found-ne0.true in
-    refused _ _ _ (stopped) c.if-found-ne0.true c.refused.ensures
+    refused _ _ _ stopped c.if-found-ne0.true c.refused.ensures
 
 pub judge_scan-k-requires : goal.judge_scan-k-requires
 judge_scan-k-requires c =
@@ -46,10 +46,10 @@ judge_scan-k-requires c =
     steps.scan c.args.station c.args.serial in
     let typed : Typed c.args.house =
     let g = c.well_formed.0.1.1.1.1.1.1.1.1.1 in record { stations = search rules; serials = search rules } in
-    let gated : let b = c in first (gate (lent) (call)) ≡ 0 =
+    let gated : first (gate lent call) ≡ 0 =
     sym c.gate-found.ensures ∙ c.if-found-ne0.false in
-    let whole : Whole (lent) =
-    let b = c in past (lent) (call) (typed) (gated) in
+    let whole : Whole lent =
+    past lent call typed gated in
     whole
 
 pub refused-requires-then-k-ne0 : goal.refused-requires-then-k-ne0
@@ -58,11 +58,11 @@ refused-requires-then-k-ne0 c =
     let a = c.args in memory a.house a.board.now a.cells.now a.heard.now in
     let call : Call =
     steps.scan c.args.station c.args.serial in
-    let gated : first (gate (lent) (call)) ≡ 0 =
+    let gated : first (gate lent call) ≡ 0 =
     sym c.gate-found.ensures ∙ c.if-found-ne0.false in
-    let judged : reply (lent) (call) ≡ c.judge_scan-k.result =
-    by_judge _ _ _ (gated) c.judge_scan-k.ensures in
-    let parts = named _ _ _ (judged) c.if-k-ne0.true in record { le_k = parts.0; k_bound = parts.1 }
+    let judged : reply lent call ≡ c.judge_scan-k.result =
+    by_judge _ _ _ gated c.judge_scan-k.ensures in
+    let parts = named _ _ _ judged c.if-k-ne0.true in record { le_k = parts.0; k_bound = parts.1 }
 
 pub returns-then-k-ne0 : goal.returns-then-k-ne0
 returns-then-k-ne0 c =
@@ -70,11 +70,11 @@ returns-then-k-ne0 c =
     let a = c.args in memory a.house a.board.now a.cells.now a.heard.now in
     let call : Call =
     steps.scan c.args.station c.args.serial in
-    let gated : first (gate (lent) (call)) ≡ 0 =
+    let gated : first (gate lent call) ≡ 0 =
     sym c.gate-found.ensures ∙ c.if-found-ne0.false in
-    let judged : reply (lent) (call) ≡ c.judge_scan-k.result =
-    by_judge _ _ _ (gated) c.judge_scan-k.ensures in
-    refused _ _ _ (judged) c.if-k-ne0.true c.refused-then-k-ne0.ensures
+    let judged : reply lent call ≡ c.judge_scan-k.result =
+    by_judge _ _ _ gated c.judge_scan-k.ensures in
+    refused _ _ _ judged c.if-k-ne0.true c.refused-then-k-ne0.ensures
 
 pub overflow_cast-station : goal.overflow_cast-station
 unfolding fields
@@ -85,19 +85,18 @@ overflow_cast-station c =
     steps.scan c.args.station c.args.serial in
     let typed : Typed c.args.house =
     let g = c.well_formed.0.1.1.1.1.1.1.1.1.1 in record { stations = search rules; serials = search rules } in
-    let gated : let b = c in first (gate (lent) (call)) ≡ 0 =
+    let gated : first (gate lent call) ≡ 0 =
     sym c.gate-found.ensures ∙ c.if-found-ne0.false in
-    let whole : Whole (lent) =
-    let b = c in past (lent) (call) (typed) (gated) in
-    let judged : reply (lent) (call) ≡ c.judge_scan-k.result =
-    by_judge _ _ _ (gated) c.judge_scan-k.ensures in
-    let accepted : let b = c in reply (lent) (call) ≡ 0 =
+    let whole : Whole lent =
+    past lent call typed gated in
+    let judged : reply lent call ≡ c.judge_scan-k.result =
+    by_judge _ _ _ gated c.judge_scan-k.ensures in
+    let accepted : reply lent call ≡ 0 =
     judged ∙ c.if-k-ne0.false in
-    let small : let a = c.args in (a.station ≤ 255) × (tube_for (read (lent)).intake a.station a.serial ≤ 64) =
-    let b = c in
-    let a = b.args in
-    let p = passed (lent) (call) (typed) (accepted) in
-    (scan_says a.station a.serial (holds _ p.fields), tube_most (lent) a.station a.serial (whole) p) in
+    let small : let a = c.args in (a.station ≤ 255) × (tube_for (read lent).intake a.station a.serial ≤ 64) =
+    let a = c.args in
+    let p = passed lent call typed accepted in
+    (scan_says a.station a.serial (holds _ p.fields), tube_most lent a.station a.serial whole p) in
     omega (arith, small)
 
 pub tube_of-t-requires : goal.tube_of-t-requires
@@ -108,11 +107,11 @@ tube_of-t-requires c =
     steps.scan c.args.station c.args.serial in
     let typed : Typed c.args.house =
     let g = c.well_formed.0.1.1.1.1.1.1.1.1.1 in record { stations = search rules; serials = search rules } in
-    let gated : let b = c in first (gate (lent) (call)) ≡ 0 =
+    let gated : first (gate lent call) ≡ 0 =
     sym c.gate-found.ensures ∙ c.if-found-ne0.false in
-    let whole : Whole (lent) =
-    let b = c in past (lent) (call) (typed) (gated) in
-    (bounds _ (whole)).tubes
+    let whole : Whole lent =
+    past lent call typed gated in
+    (bounds _ whole).tubes
 
 pub overflow_cast-station-2 : goal.overflow_cast-station-2
 unfolding fields
@@ -123,19 +122,18 @@ overflow_cast-station-2 c =
     steps.scan c.args.station c.args.serial in
     let typed : Typed c.args.house =
     let g = c.well_formed.0.1.1.1.1.1.1.1.1.1 in record { stations = search rules; serials = search rules } in
-    let gated : let b = c in first (gate (lent) (call)) ≡ 0 =
+    let gated : first (gate lent call) ≡ 0 =
     sym c.gate-found.ensures ∙ c.if-found-ne0.false in
-    let whole : Whole (lent) =
-    let b = c in past (lent) (call) (typed) (gated) in
-    let judged : reply (lent) (call) ≡ c.judge_scan-k.result =
-    by_judge _ _ _ (gated) c.judge_scan-k.ensures in
-    let accepted : let b = c in reply (lent) (call) ≡ 0 =
+    let whole : Whole lent =
+    past lent call typed gated in
+    let judged : reply lent call ≡ c.judge_scan-k.result =
+    by_judge _ _ _ gated c.judge_scan-k.ensures in
+    let accepted : reply lent call ≡ 0 =
     judged ∙ c.if-k-ne0.false in
-    let small : let a = c.args in (a.station ≤ 255) × (tube_for (read (lent)).intake a.station a.serial ≤ 64) =
-    let b = c in
-    let a = b.args in
-    let p = passed (lent) (call) (typed) (accepted) in
-    (scan_says a.station a.serial (holds _ p.fields), tube_most (lent) a.station a.serial (whole) p) in
+    let small : let a = c.args in (a.station ≤ 255) × (tube_for (read lent).intake a.station a.serial ≤ 64) =
+    let a = c.args in
+    let p = passed lent call typed accepted in
+    (scan_says a.station a.serial (holds _ p.fields), tube_most lent a.station a.serial whole p) in
     omega (arith, small)
 
 pub act_scan-h-requires : goal.act_scan-h-requires
@@ -146,13 +144,13 @@ act_scan-h-requires c =
     steps.scan c.args.station c.args.serial in
     let typed : Typed c.args.house =
     let g = c.well_formed.0.1.1.1.1.1.1.1.1.1 in record { stations = search rules; serials = search rules } in
-    let gated : let b = c in first (gate (lent) (call)) ≡ 0 =
+    let gated : first (gate lent call) ≡ 0 =
     sym c.gate-found.ensures ∙ c.if-found-ne0.false in
-    let whole : Whole (lent) =
-    let b = c in past (lent) (call) (typed) (gated) in
-    let judged : reply (lent) (call) ≡ c.judge_scan-k.result =
-    by_judge _ _ _ (gated) c.judge_scan-k.ensures in
-    let accepted : let b = c in reply (lent) (call) ≡ 0 =
+    let whole : Whole lent =
+    past lent call typed gated in
+    let judged : reply lent call ≡ c.judge_scan-k.result =
+    by_judge _ _ _ gated c.judge_scan-k.ensures in
+    let accepted : reply lent call ≡ 0 =
     judged ∙ c.if-k-ne0.false in
     record { whole = whole; serial_value = accepted }
 
@@ -165,20 +163,19 @@ overflow_cast-result c =
     steps.scan c.args.station c.args.serial in
     let typed : Typed c.args.house =
     let g = c.well_formed.0.1.1.1.1.1.1.1.1.1 in record { stations = search rules; serials = search rules } in
-    let gated : let b = c in first (gate (lent) (call)) ≡ 0 =
+    let gated : first (gate lent call) ≡ 0 =
     sym c.gate-found.ensures ∙ c.if-found-ne0.false in
-    let whole : Whole (lent) =
-    let b = c in past (lent) (call) (typed) (gated) in
-    let judged : reply (lent) (call) ≡ c.judge_scan-k.result =
-    by_judge _ _ _ (gated) c.judge_scan-k.ensures in
-    let accepted : let b = c in reply (lent) (call) ≡ 0 =
+    let whole : Whole lent =
+    past lent call typed gated in
+    let judged : reply lent call ≡ c.judge_scan-k.result =
+    by_judge _ _ _ gated c.judge_scan-k.ensures in
+    let accepted : reply lent call ≡ 0 =
     judged ∙ c.if-k-ne0.false in
-    let small : let a = c.args in (a.station ≤ 255) × (tube_for (read (lent)).intake a.station a.serial ≤ 64) =
-    let b = c in
-    let a = b.args in
-    let p = passed (lent) (call) (typed) (accepted) in
-    (scan_says a.station a.serial (holds _ p.fields), tube_most (lent) a.station a.serial (whole) p) in
-    let d = c.before in omega (arith, d.tube_of-t.ensures, small)
+    let small : let a = c.args in (a.station ≤ 255) × (tube_for (read lent).intake a.station a.serial ≤ 64) =
+    let a = c.args in
+    let p = passed lent call typed accepted in
+    (scan_says a.station a.serial (holds _ p.fields), tube_most lent a.station a.serial whole p) in
+    omega (arith, c.tube_of-t.ensures, small)
 
 pub returns : goal.returns
 unfolding tell
@@ -187,10 +184,10 @@ returns c =
     let a = c.args in memory a.house a.board.now a.cells.now a.heard.now in
     let call : Call =
     steps.scan c.args.station c.args.serial in
-    let gated : let b = c in first (gate (lent) (call)) ≡ 0 =
+    let gated : first (gate lent call) ≡ 0 =
     sym c.gate-found.ensures ∙ c.if-found-ne0.false in
-    let judged : reply (lent) (call) ≡ c.judge_scan-k.result =
-    by_judge _ _ _ (gated) c.judge_scan-k.ensures in
-    let accepted : let b = c in reply (lent) (call) ≡ 0 =
+    let judged : reply lent call ≡ c.judge_scan-k.result =
+    by_judge _ _ _ gated c.judge_scan-k.ensures in
+    let accepted : reply lent call ≡ 0 =
     judged ∙ c.if-k-ne0.false in
-    let d = c.before in done _ _ (accepted) (ap valued d.tube_of-t.ensures) c.act_scan-h.ensures
+    done _ _ accepted (ap valued c.tube_of-t.ensures) c.act_scan-h.ensures

@@ -20,9 +20,9 @@ refused-requires c =
     let a = c.args in memory a.house a.board.now a.cells.now a.heard.now in
     let call : Call =
     c1a c.args.row c.args.ballot in
-    let stopped : reply (lent) (call) ≡ c.gate-found.result =
+    let stopped : reply lent call ≡ c.gate-found.result =
     at-gate _ _ _ c.gate-found.ensures c.if-found-ne0.true in
-    let parts = named _ _ _ (stopped) c.if-found-ne0.true in record { le_k = parts.0; k_bound = parts.1 }
+    let parts = named _ _ _ stopped c.if-found-ne0.true in record { le_k = parts.0; k_bound = parts.1 }
 
 pub returns-then-found-ne0 : goal.returns-then-found-ne0
 returns-then-found-ne0 c =
@@ -30,9 +30,9 @@ returns-then-found-ne0 c =
     let a = c.args in memory a.house a.board.now a.cells.now a.heard.now in
     let call : Call =
     c1a c.args.row c.args.ballot in
-    let stopped : reply (lent) (call) ≡ c.gate-found.result =
+    let stopped : reply lent call ≡ c.gate-found.result =
     at-gate _ _ _ c.gate-found.ensures c.if-found-ne0.true in
-    refused _ _ _ (stopped) c.if-found-ne0.true c.refused.ensures
+    refused _ _ _ stopped c.if-found-ne0.true c.refused.ensures
 
 pub judge_1a-k-requires : goal.judge_1a-k-requires
 judge_1a-k-requires c =
@@ -42,10 +42,10 @@ judge_1a-k-requires c =
     c1a c.args.row c.args.ballot in
     let typed : Typed c.args.house =
     let g = c.well_formed.0.1.1.1.1.1.1.1.1.1 in record { stations = search rules; serials = search rules } in
-    let gated : let b = c in first (gate (lent) (call)) ≡ 0 =
+    let gated : first (gate lent call) ≡ 0 =
     sym c.gate-found.ensures ∙ c.if-found-ne0.false in
-    let whole : Whole (lent) =
-    let b = c in past (lent) (call) (typed) (gated) in
+    let whole : Whole lent =
+    past lent call typed gated in
     whole
 
 pub refused-requires-then-k-ne0 : goal.refused-requires-then-k-ne0
@@ -54,11 +54,11 @@ refused-requires-then-k-ne0 c =
     let a = c.args in memory a.house a.board.now a.cells.now a.heard.now in
     let call : Call =
     c1a c.args.row c.args.ballot in
-    let gated : first (gate (lent) (call)) ≡ 0 =
+    let gated : first (gate lent call) ≡ 0 =
     sym c.gate-found.ensures ∙ c.if-found-ne0.false in
-    let judged : reply (lent) (call) ≡ c.judge_1a-k.result =
-    by_judge _ _ _ (gated) c.judge_1a-k.ensures in
-    let parts = named _ _ _ (judged) c.if-k-ne0.true in record { le_k = parts.0; k_bound = parts.1 }
+    let judged : reply lent call ≡ c.judge_1a-k.result =
+    by_judge _ _ _ gated c.judge_1a-k.ensures in
+    let parts = named _ _ _ judged c.if-k-ne0.true in record { le_k = parts.0; k_bound = parts.1 }
 
 pub returns-then-k-ne0 : goal.returns-then-k-ne0
 returns-then-k-ne0 c =
@@ -66,11 +66,11 @@ returns-then-k-ne0 c =
     let a = c.args in memory a.house a.board.now a.cells.now a.heard.now in
     let call : Call =
     c1a c.args.row c.args.ballot in
-    let gated : first (gate (lent) (call)) ≡ 0 =
+    let gated : first (gate lent call) ≡ 0 =
     sym c.gate-found.ensures ∙ c.if-found-ne0.false in
-    let judged : reply (lent) (call) ≡ c.judge_1a-k.result =
-    by_judge _ _ _ (gated) c.judge_1a-k.ensures in
-    refused _ _ _ (judged) c.if-k-ne0.true c.refused-then-k-ne0.ensures
+    let judged : reply lent call ≡ c.judge_1a-k.result =
+    by_judge _ _ _ gated c.judge_1a-k.ensures in
+    refused _ _ _ judged c.if-k-ne0.true c.refused-then-k-ne0.ensures
 
 pub overflow_cast-row : goal.overflow_cast-row
 unfolding fields
@@ -81,16 +81,15 @@ overflow_cast-row c =
     c1a c.args.row c.args.ballot in
     let typed : Typed c.args.house =
     let g = c.well_formed.0.1.1.1.1.1.1.1.1.1 in record { stations = search rules; serials = search rules } in
-    let gated : let b = c in first (gate (lent) (call)) ≡ 0 =
+    let gated : first (gate lent call) ≡ 0 =
     sym c.gate-found.ensures ∙ c.if-found-ne0.false in
-    let judged : reply (lent) (call) ≡ c.judge_1a-k.result =
-    by_judge _ _ _ (gated) c.judge_1a-k.ensures in
-    let accepted : let b = c in reply (lent) (call) ≡ 0 =
+    let judged : reply lent call ≡ c.judge_1a-k.result =
+    by_judge _ _ _ gated c.judge_1a-k.ensures in
+    let accepted : reply lent call ≡ 0 =
     judged ∙ c.if-k-ne0.false in
     let small : let a = c.args in (a.row ≤ a.house.rows) × (a.ballot ≤ 15) =
-    let b = c in
-    let a = b.args in
-    let p = passed (lent) (call) (typed) (accepted) in
+    let a = c.args in
+    let p = passed lent call typed accepted in
     lead_says (room_of a.house) a.row a.ballot (holds _ p.fields) in
     omega (arith, small)
 
@@ -103,16 +102,15 @@ overflow_cast-ballot c =
     c1a c.args.row c.args.ballot in
     let typed : Typed c.args.house =
     let g = c.well_formed.0.1.1.1.1.1.1.1.1.1 in record { stations = search rules; serials = search rules } in
-    let gated : let b = c in first (gate (lent) (call)) ≡ 0 =
+    let gated : first (gate lent call) ≡ 0 =
     sym c.gate-found.ensures ∙ c.if-found-ne0.false in
-    let judged : reply (lent) (call) ≡ c.judge_1a-k.result =
-    by_judge _ _ _ (gated) c.judge_1a-k.ensures in
-    let accepted : let b = c in reply (lent) (call) ≡ 0 =
+    let judged : reply lent call ≡ c.judge_1a-k.result =
+    by_judge _ _ _ gated c.judge_1a-k.ensures in
+    let accepted : reply lent call ≡ 0 =
     judged ∙ c.if-k-ne0.false in
     let small : let a = c.args in (a.row ≤ a.house.rows) × (a.ballot ≤ 15) =
-    let b = c in
-    let a = b.args in
-    let p = passed (lent) (call) (typed) (accepted) in
+    let a = c.args in
+    let p = passed lent call typed accepted in
     lead_says (room_of a.house) a.row a.ballot (holds _ p.fields) in
     omega (arith, small)
 
@@ -124,13 +122,13 @@ act_1a-h-requires c =
     c1a c.args.row c.args.ballot in
     let typed : Typed c.args.house =
     let g = c.well_formed.0.1.1.1.1.1.1.1.1.1 in record { stations = search rules; serials = search rules } in
-    let gated : let b = c in first (gate (lent) (call)) ≡ 0 =
+    let gated : first (gate lent call) ≡ 0 =
     sym c.gate-found.ensures ∙ c.if-found-ne0.false in
-    let whole : Whole (lent) =
-    let b = c in past (lent) (call) (typed) (gated) in
-    let judged : reply (lent) (call) ≡ c.judge_1a-k.result =
-    by_judge _ _ _ (gated) c.judge_1a-k.ensures in
-    let accepted : let b = c in reply (lent) (call) ≡ 0 =
+    let whole : Whole lent =
+    past lent call typed gated in
+    let judged : reply lent call ≡ c.judge_1a-k.result =
+    by_judge _ _ _ gated c.judge_1a-k.ensures in
+    let accepted : reply lent call ≡ 0 =
     judged ∙ c.if-k-ne0.false in
     record { whole = whole; ballot_value = accepted }
 
@@ -141,10 +139,10 @@ returns c =
     let a = c.args in memory a.house a.board.now a.cells.now a.heard.now in
     let call : Call =
     c1a c.args.row c.args.ballot in
-    let gated : let b = c in first (gate (lent) (call)) ≡ 0 =
+    let gated : first (gate lent call) ≡ 0 =
     sym c.gate-found.ensures ∙ c.if-found-ne0.false in
-    let judged : reply (lent) (call) ≡ c.judge_1a-k.result =
-    by_judge _ _ _ (gated) c.judge_1a-k.ensures in
-    let accepted : let b = c in reply (lent) (call) ≡ 0 =
+    let judged : reply lent call ≡ c.judge_1a-k.result =
+    by_judge _ _ _ gated c.judge_1a-k.ensures in
+    let accepted : reply lent call ≡ 0 =
     judged ∙ c.if-k-ne0.false in
-    let d = c.before.before in done _ _ (accepted) refl d.act_1a-h.ensures
+    done _ _ accepted refl c.act_1a-h.ensures

@@ -21,9 +21,9 @@ refused-requires c =
     let a = c.args in memory a.house a.board.now a.cells.now a.heard.now in
     let call : Call =
     c1b c.args.row c.args.node c.args.ballot in
-    let stopped : reply (lent) (call) ≡ c.gate-found.result =
+    let stopped : reply lent call ≡ c.gate-found.result =
     at-gate _ _ _ c.gate-found.ensures c.if-found-ne0.true in
-    let parts = named _ _ _ (stopped) c.if-found-ne0.true in record { le_k = parts.0; k_bound = parts.1 }
+    let parts = named _ _ _ stopped c.if-found-ne0.true in record { le_k = parts.0; k_bound = parts.1 }
 
 pub returns-then-found-ne0 : goal.returns-then-found-ne0
 returns-then-found-ne0 c =
@@ -31,9 +31,9 @@ returns-then-found-ne0 c =
     let a = c.args in memory a.house a.board.now a.cells.now a.heard.now in
     let call : Call =
     c1b c.args.row c.args.node c.args.ballot in
-    let stopped : reply (lent) (call) ≡ c.gate-found.result =
+    let stopped : reply lent call ≡ c.gate-found.result =
     at-gate _ _ _ c.gate-found.ensures c.if-found-ne0.true in
-    refused _ _ _ (stopped) c.if-found-ne0.true c.refused.ensures
+    refused _ _ _ stopped c.if-found-ne0.true c.refused.ensures
 
 pub judge_1b-k-requires : goal.judge_1b-k-requires
 judge_1b-k-requires c =
@@ -43,10 +43,10 @@ judge_1b-k-requires c =
     c1b c.args.row c.args.node c.args.ballot in
     let typed : Typed c.args.house =
     let g = c.well_formed.0.1.1.1.1.1.1.1.1.1 in record { stations = search rules; serials = search rules } in
-    let gated : let b = c in first (gate (lent) (call)) ≡ 0 =
+    let gated : first (gate lent call) ≡ 0 =
     sym c.gate-found.ensures ∙ c.if-found-ne0.false in
-    let whole : Whole (lent) =
-    let b = c in past (lent) (call) (typed) (gated) in
+    let whole : Whole lent =
+    past lent call typed gated in
     whole
 
 pub refused-requires-then-k-ne0 : goal.refused-requires-then-k-ne0
@@ -55,11 +55,11 @@ refused-requires-then-k-ne0 c =
     let a = c.args in memory a.house a.board.now a.cells.now a.heard.now in
     let call : Call =
     c1b c.args.row c.args.node c.args.ballot in
-    let gated : first (gate (lent) (call)) ≡ 0 =
+    let gated : first (gate lent call) ≡ 0 =
     sym c.gate-found.ensures ∙ c.if-found-ne0.false in
-    let judged : reply (lent) (call) ≡ c.judge_1b-k.result =
-    by_judge _ _ _ (gated) c.judge_1b-k.ensures in
-    let parts = named _ _ _ (judged) c.if-k-ne0.true in record { le_k = parts.0; k_bound = parts.1 }
+    let judged : reply lent call ≡ c.judge_1b-k.result =
+    by_judge _ _ _ gated c.judge_1b-k.ensures in
+    let parts = named _ _ _ judged c.if-k-ne0.true in record { le_k = parts.0; k_bound = parts.1 }
 
 pub returns-then-k-ne0 : goal.returns-then-k-ne0
 returns-then-k-ne0 c =
@@ -67,11 +67,11 @@ returns-then-k-ne0 c =
     let a = c.args in memory a.house a.board.now a.cells.now a.heard.now in
     let call : Call =
     c1b c.args.row c.args.node c.args.ballot in
-    let gated : first (gate (lent) (call)) ≡ 0 =
+    let gated : first (gate lent call) ≡ 0 =
     sym c.gate-found.ensures ∙ c.if-found-ne0.false in
-    let judged : reply (lent) (call) ≡ c.judge_1b-k.result =
-    by_judge _ _ _ (gated) c.judge_1b-k.ensures in
-    refused _ _ _ (judged) c.if-k-ne0.true c.refused-then-k-ne0.ensures
+    let judged : reply lent call ≡ c.judge_1b-k.result =
+    by_judge _ _ _ gated c.judge_1b-k.ensures in
+    refused _ _ _ judged c.if-k-ne0.true c.refused-then-k-ne0.ensures
 
 pub overflow_cast-n : goal.overflow_cast-n
 unfolding fields
@@ -82,16 +82,15 @@ overflow_cast-n c =
     c1b c.args.row c.args.node c.args.ballot in
     let typed : Typed c.args.house =
     let g = c.well_formed.0.1.1.1.1.1.1.1.1.1 in record { stations = search rules; serials = search rules } in
-    let gated : let b = c in first (gate (lent) (call)) ≡ 0 =
+    let gated : first (gate lent call) ≡ 0 =
     sym c.gate-found.ensures ∙ c.if-found-ne0.false in
-    let judged : reply (lent) (call) ≡ c.judge_1b-k.result =
-    by_judge _ _ _ (gated) c.judge_1b-k.ensures in
-    let accepted : let b = c in reply (lent) (call) ≡ 0 =
+    let judged : reply lent call ≡ c.judge_1b-k.result =
+    by_judge _ _ _ gated c.judge_1b-k.ensures in
+    let accepted : reply lent call ≡ 0 =
     judged ∙ c.if-k-ne0.false in
     let small : let a = c.args in At (room_of a.house) a.row a.node × (a.ballot ≤ 15) =
-    let b = c in
-    let a = b.args in
-    let p = passed (lent) (call) (typed) (accepted) in
+    let a = c.args in
+    let p = passed lent call typed accepted in
     promise-says (room_of a.house) a.row a.node a.ballot (holds _ p.fields) in
     omega (arith, (small).0)
 
@@ -104,16 +103,15 @@ overflow_cast-row c =
     c1b c.args.row c.args.node c.args.ballot in
     let typed : Typed c.args.house =
     let g = c.well_formed.0.1.1.1.1.1.1.1.1.1 in record { stations = search rules; serials = search rules } in
-    let gated : let b = c in first (gate (lent) (call)) ≡ 0 =
+    let gated : first (gate lent call) ≡ 0 =
     sym c.gate-found.ensures ∙ c.if-found-ne0.false in
-    let judged : reply (lent) (call) ≡ c.judge_1b-k.result =
-    by_judge _ _ _ (gated) c.judge_1b-k.ensures in
-    let accepted : let b = c in reply (lent) (call) ≡ 0 =
+    let judged : reply lent call ≡ c.judge_1b-k.result =
+    by_judge _ _ _ gated c.judge_1b-k.ensures in
+    let accepted : reply lent call ≡ 0 =
     judged ∙ c.if-k-ne0.false in
     let small : let a = c.args in At (room_of a.house) a.row a.node × (a.ballot ≤ 15) =
-    let b = c in
-    let a = b.args in
-    let p = passed (lent) (call) (typed) (accepted) in
+    let a = c.args in
+    let p = passed lent call typed accepted in
     promise-says (room_of a.house) a.row a.node a.ballot (holds _ p.fields) in
     omega (arith, (small).0)
 
@@ -126,16 +124,15 @@ overflow_cast-ballot c =
     c1b c.args.row c.args.node c.args.ballot in
     let typed : Typed c.args.house =
     let g = c.well_formed.0.1.1.1.1.1.1.1.1.1 in record { stations = search rules; serials = search rules } in
-    let gated : let b = c in first (gate (lent) (call)) ≡ 0 =
+    let gated : first (gate lent call) ≡ 0 =
     sym c.gate-found.ensures ∙ c.if-found-ne0.false in
-    let judged : reply (lent) (call) ≡ c.judge_1b-k.result =
-    by_judge _ _ _ (gated) c.judge_1b-k.ensures in
-    let accepted : let b = c in reply (lent) (call) ≡ 0 =
+    let judged : reply lent call ≡ c.judge_1b-k.result =
+    by_judge _ _ _ gated c.judge_1b-k.ensures in
+    let accepted : reply lent call ≡ 0 =
     judged ∙ c.if-k-ne0.false in
     let small : let a = c.args in At (room_of a.house) a.row a.node × (a.ballot ≤ 15) =
-    let b = c in
-    let a = b.args in
-    let p = passed (lent) (call) (typed) (accepted) in
+    let a = c.args in
+    let p = passed lent call typed accepted in
     promise-says (room_of a.house) a.row a.node a.ballot (holds _ p.fields) in
     omega (arith, (small).1)
 
@@ -147,13 +144,13 @@ act_1b-h-requires c =
     c1b c.args.row c.args.node c.args.ballot in
     let typed : Typed c.args.house =
     let g = c.well_formed.0.1.1.1.1.1.1.1.1.1 in record { stations = search rules; serials = search rules } in
-    let gated : let b = c in first (gate (lent) (call)) ≡ 0 =
+    let gated : first (gate lent call) ≡ 0 =
     sym c.gate-found.ensures ∙ c.if-found-ne0.false in
-    let whole : Whole (lent) =
-    let b = c in past (lent) (call) (typed) (gated) in
-    let judged : reply (lent) (call) ≡ c.judge_1b-k.result =
-    by_judge _ _ _ (gated) c.judge_1b-k.ensures in
-    let accepted : let b = c in reply (lent) (call) ≡ 0 =
+    let whole : Whole lent =
+    past lent call typed gated in
+    let judged : reply lent call ≡ c.judge_1b-k.result =
+    by_judge _ _ _ gated c.judge_1b-k.ensures in
+    let accepted : reply lent call ≡ 0 =
     judged ∙ c.if-k-ne0.false in
     record { whole = whole; ballot_value = accepted }
 
@@ -164,10 +161,10 @@ returns c =
     let a = c.args in memory a.house a.board.now a.cells.now a.heard.now in
     let call : Call =
     c1b c.args.row c.args.node c.args.ballot in
-    let gated : let b = c in first (gate (lent) (call)) ≡ 0 =
+    let gated : first (gate lent call) ≡ 0 =
     sym c.gate-found.ensures ∙ c.if-found-ne0.false in
-    let judged : reply (lent) (call) ≡ c.judge_1b-k.result =
-    by_judge _ _ _ (gated) c.judge_1b-k.ensures in
-    let accepted : let b = c in reply (lent) (call) ≡ 0 =
+    let judged : reply lent call ≡ c.judge_1b-k.result =
+    by_judge _ _ _ gated c.judge_1b-k.ensures in
+    let accepted : reply lent call ≡ 0 =
     judged ∙ c.if-k-ne0.false in
-    let d = c.before.before.before.before in done _ _ (accepted) refl d.act_1b-h.ensures
+    done _ _ accepted refl c.act_1b-h.ensures

@@ -1,11 +1,10 @@
 -- Writing thirty-two bytes: each turn pastes one byte more.
-use Prim.Native.Nat.{◌-◌}
 use mathlib.Core.Path.{◌≡◌}
 use native.Mathlib.Omega.{arith}
 use native.Mathlib.Numerals.{add-one}
 use borrow.Author.Rules.{rules}
 use lib.ListN.{length}
-use lib.Seq.{paste, paste-zero, paste-suc, length-paste}
+use lib.Seq.{paste-zero, paste-suc, length-paste}
 use Rattle.cell.proofs.put_pairs.Goals as goal
 
 pub loop-i-init : goal.loop-i-init

@@ -1,9 +1,7 @@
 -- `count_entered` meets its contract: each turn counts one row more.
 use mathlib.Core.Path.{◌≡◌, refl, ◌∙◌}
-use Prim.Native.Nat.{◌-◌}
 use native.Mathlib.Omega.{arith}
 use borrow.Author.Rules.{rules}
-use Rattle.rules.specs.Laws.{entered}
 use Rattle.closing.proofs.Rows.{entered-next, entered_all}
 use Rattle.closing.proofs.count_entered.Goals as goal
 

@@ -1,11 +1,11 @@
 -- `put_text` meets its contract: each turn writes one byte more of the text.
 use mathlib.Core.Path.{◌≡◌}
 use mathlib.Core.List.{[], ◌∷◌, ◌++◌}
-use Prim.Native.Nat.{◌+◌, ◌-◌}
+use Prim.Native.Nat.{◌+◌}
 use native.Mathlib.Numerals.{add-one}
 use native.Mathlib.Omega.{arith}
 use borrow.Author.Rules.{rules}
-use lib.ListN.{length, get_or, take, length-set}
+use lib.ListN.{get_or, take, length-set}
 use lib.Seq.{take-suc, take_all}
 use Rattle.closing.proofs.Writing.{wrote_none, wrote_byte, wrote_on}
 use Rattle.closing.proofs.put_text.Goals as goal

@@ -1,6 +1,5 @@
 -- `write_waiting` meets its contract: each turn writes one tube's line more, if it waits.
 use mathlib.Core.Path.{◌≡◌, refl, ◌∙◌}
-use Prim.Native.Nat.{◌-◌}
 use native.Mathlib.Omega.{arith}
 use borrow.Author.Rules.{rules}
 use Rattle.closing.proofs.Writing.{wrote_none, wrote_on}

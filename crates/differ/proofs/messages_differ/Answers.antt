@@ -1,7 +1,5 @@
 -- Messages pass one by one: each is none of those before it, and the table then has it too.
 use mathlib.Core.Path.{◌≡◌, refl, sym, ◌∙◌}
-use Prim.Native.Nat.{◌-◌}
-use mathlib.Core.Bool.{true}
 use native.Mathlib.Omega.{arith}
 use Rattle.rules.specs.Lent.{window}
 use Rattle.rules.proofs.Each.{each_more, each_stop}

@@ -1,6 +1,5 @@
 -- Slot by slot: every slot passed has another message.
 use mathlib.Core.Path.{sym, ◌∙◌}
-use Prim.Native.Nat.{◌-◌}
 use native.Mathlib.Omega.{arith}
 use lib.ListN.{get_or}
 use Rattle.differ.proofs.Slots.{other-more, equal_there}

@@ -19,28 +19,28 @@ returns-then-found-ne0 c =
     let a = c.args in memory a.house a.board.now a.cells.now a.heard.now in
     let line = c.answer_line in
     let k = c.gate-found.result in
-    let parts = closes_with (lent) c.args.out.now (refused (lent) k c.gate-found.ensures c.if-found-ne0.true)
+    let parts = closes_with lent c.args.out.now (refused lent k c.gate-found.ensures c.if-found-ne0.true)
     (line.ensures.wrote.ends ∙ zero-add (length (answer_text k 0))) line.ensures.wrote.area (omega (arith, line.ensures.upper_bound)) in record { value = parts.0; out_after = parts.1.0; upper_bound = parts.1.1 }
 
 pub book_rows-b-requires : goal.book_rows-b-requires
 book_rows-b-requires c =
     let lent : Memory =
     let a = c.args in memory a.house a.board.now a.cells.now a.heard.now in
-    let gated : first (gate (lent) (ask 0)) ≡ 0 =
+    let gated : first (gate lent (ask 0)) ≡ 0 =
     sym c.gate-found.ensures ∙ c.if-found-ne0.false in
-    past_countable (lent) (ask 0) (gated)
+    past_countable lent (ask 0) gated
 
 pub write_closing-requires : goal.write_closing-requires
 write_closing-requires c =
     let lent : Memory =
     let a = c.args in memory a.house a.board.now a.cells.now a.heard.now in
-    let gated : first (gate (lent) (ask 0)) ≡ 0 =
+    let gated : first (gate lent (ask 0)) ≡ 0 =
     sym c.gate-found.ensures ∙ c.if-found-ne0.false in
     let rows : let m = lent in let b = c.book_rows-b.result in
     Given (room_of m.house) (read m) b.tubes b.reach c.by_split-split.result m.house.stations m.house.serials m.house.tubes =
     let b = c.book_rows-b in
     let m = lent in
-    given_rows m (gated) b.result c.by_split-split.result (b.ensures m.cells m.heard) c.by_split-split.ensures in
+    given_rows m gated b.result c.by_split-split.result (b.ensures m.cells m.heard) c.by_split-split.ensures in
     let m = lent in
     record { known = (room_of m.house, read m, rows); in_bounds = omega (arith, c.requires) }
 
@@ -48,18 +48,14 @@ pub returns : goal.returns
 returns c =
     let lent : Memory =
     let a = c.args in memory a.house a.board.now a.cells.now a.heard.now in
-    let gated : first (gate (lent) (ask 0)) ≡ 0 =
+    let gated : first (gate lent (ask 0)) ≡ 0 =
     sym c.gate-found.ensures ∙ c.if-found-ne0.false in
     let rows : let m = lent in let b = c.book_rows-b.result in
     Given (room_of m.house) (read m) b.tubes b.reach c.by_split-split.result m.house.stations m.house.serials m.house.tubes =
     let b = c.book_rows-b in
-    let e = c.before.before.before in
     let m = lent in
-    given_rows m (gated) b.result c.by_split-split.result (b.ensures m.cells m.heard) c.by_split-split.ensures in
+    given_rows m gated b.result c.by_split-split.result (b.ensures m.cells m.heard) c.by_split-split.ensures in
     let closing = c.write_closing in
-    let r = c.before.before.before.before.before.before in
-    let e = r.before.before.before in
-    let b = c in
     let m = lent in
-    let w = closing.ensures.value (room_of m.house) (read m) (rows) in
-    let parts = closes_with m b.args.out.now (let_through m (gated)) w.0 w.1 closing.ensures.upper_bound in record { value = parts.0; out_after = parts.1.0; upper_bound = parts.1.1 }
+    let w = closing.ensures.value (room_of m.house) (read m) rows in
+    let parts = closes_with m c.args.out.now (let_through m gated) w.0 w.1 closing.ensures.upper_bound in record { value = parts.0; out_after = parts.1.0; upper_bound = parts.1.1 }

@@ -22,9 +22,9 @@ message-m-requires c =
     post_of c.args.post c.args.pairs in
     let lent : Memory =
     let a = c.args in memory a.h a.board.now a.cells.now a.heard.now in
-    let past : Passed (lent) (foreign (given)) =
-    passed (lent) (foreign (given)) c.requires.whole.typed c.requires.pairs_value in
-    let inside : T (post_in (room_of c.args.h) (given)) =
+    let past : Passed lent (foreign given) =
+    passed lent (foreign given) c.requires.whole.typed c.requires.pairs_value in
+    let inside : T (post_in (room_of c.args.h) given) =
     (past).fields in
     inside
 
@@ -34,9 +34,9 @@ post-out-requires c =
     let a = c.args in memory a.h a.board.now a.cells.now a.heard.now in
     let given : Post =
     post_of c.args.post c.args.pairs in
-    let past : Passed (lent) (foreign (given)) =
-    passed (lent) (foreign (given)) c.requires.whole.typed c.requires.pairs_value in
-    postable (lent) (posted (given)) _ c.message-m.ensures (past).size (past).form (ready (lent) (foreign (given)) (past))
+    let past : Passed lent (foreign given) =
+    passed lent (foreign given) c.requires.whole.typed c.requires.pairs_value in
+    postable lent (posted given) _ c.message-m.ensures (past).size (past).form (ready lent (foreign given) past)
 
 pub with_mark-requires : goal.with_mark-requires
 unfolding fields
@@ -45,11 +45,11 @@ with_mark-requires c =
     let a = c.args in memory a.h a.board.now a.cells.now a.heard.now in
     let given : Post =
     post_of c.args.post c.args.pairs in
-    let past : Passed (lent) (foreign (given)) =
-    passed (lent) (foreign (given)) c.requires.whole.typed c.requires.pairs_value in
-    let inside : T (post_in (room_of c.args.h) (given)) =
+    let past : Passed lent (foreign given) =
+    passed lent (foreign given) c.requires.whole.typed c.requires.pairs_value in
+    let inside : T (post_in (room_of c.args.h) given) =
     (past).fields in
-    omega (arith, ap (λ (t : Message). t.node) c.message-m.ensures ∙ poster-stored (given), poster_in (room_of c.args.h) (given) (inside), (bounds (lent) c.requires.whole).nodes)
+    omega (arith, ap (λ (t : Message). t.node) c.message-m.ensures ∙ poster-stored given, poster_in (room_of c.args.h) given inside, (bounds lent c.requires.whole).nodes)
 
 pub returns : goal.returns
 returns c =
@@ -57,8 +57,8 @@ returns c =
     let a = c.args in memory a.h a.board.now a.cells.now a.heard.now in
     let given : Post =
     post_of c.args.post c.args.pairs in
-    let past : Passed (lent) (foreign (given)) =
-    passed (lent) (foreign (given)) c.requires.whole.typed c.requires.pairs_value in
-    marked-after (lent) (given) _ c.message-m.ensures
-    (acts.posted (lent) (posted (given)) _ c.message-m.ensures (ready (lent) (foreign (given)) (past)).small c.post-out.ensures)
+    let past : Passed lent (foreign given) =
+    passed lent (foreign given) c.requires.whole.typed c.requires.pairs_value in
+    marked-after lent given _ c.message-m.ensures
+    (acts.posted lent (posted given) _ c.message-m.ensures (ready lent (foreign given) past).small c.post-out.ensures)
     c.with_mark.ensures c.requires.pairs_value

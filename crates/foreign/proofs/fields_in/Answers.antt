@@ -11,25 +11,25 @@ pub returns-in-OneB : goal.returns-in-OneB
 returns-in-OneB c =
     let told : Post → Bool =
     λ k. let a = c.args in post_in (room_of a.h) (post_of k a.pairs) in
-    c.fields_1b.ensures ∙ sym (ap (told) c.in-OneB.is)
+    c.fields_1b.ensures ∙ sym (ap told c.in-OneB.is)
 
 pub returns-in-Relay : goal.returns-in-Relay
 unfolding limits
 returns-in-Relay c =
     let told : Post → Bool =
     λ k. let a = c.args in post_in (room_of a.h) (post_of k a.pairs) in
-    c.vote_in.ensures ∙ sym (ap (told) c.in-Relay.is)
+    c.vote_in.ensures ∙ sym (ap told c.in-Relay.is)
 
 pub returns-in-Accept : goal.returns-in-Accept
 unfolding limits
 returns-in-Accept c =
     let told : Post → Bool =
     λ k. let a = c.args in post_in (room_of a.h) (post_of k a.pairs) in
-    c.vote_in-in-Accept.ensures ∙ sym (ap (told) c.in-Accept.is)
+    c.vote_in-in-Accept.ensures ∙ sym (ap told c.in-Accept.is)
 
 pub returns-in-Other : goal.returns-in-Other
 unfolding limits
 returns-in-Other c =
     let told : Post → Bool =
     λ k. let a = c.args in post_in (room_of a.h) (post_of k a.pairs) in
-    sym (ap (told) c.in-Other.is)
+    sym (ap told c.in-Other.is)

@@ -17,15 +17,15 @@ returns-then-not-fields_in c =
     let a = c.args in memory a.h a.board.now a.cells.now a.heard.now in
     let given : Post =
     post_of c.args.post c.args.pairs in
-    says_foreign (lent) (given) false _ _ (sym c.fields_in.ensures ∙ c.if-not-fields_in.true) refl refl
+    says_foreign lent given false _ _ (sym c.fields_in.ensures ∙ c.if-not-fields_in.true) refl refl
 
 pub tubes_in-requires : goal.tubes_in-requires
 tubes_in-requires c =
     let given : Post =
     post_of c.args.post c.args.pairs in
-    let inside : post_in (room_of c.args.h) (given) ≡ true =
+    let inside : post_in (room_of c.args.h) given ≡ true =
     sym c.fields_in.ensures ∙ c.if-not-fields_in.false in
-    true_holds _ (inside)
+    true_holds _ inside
 
 pub returns-then-not-tubes_in : goal.returns-then-not-tubes_in
 returns-then-not-tubes_in c =
@@ -33,17 +33,17 @@ returns-then-not-tubes_in c =
     let a = c.args in memory a.h a.board.now a.cells.now a.heard.now in
     let given : Post =
     post_of c.args.post c.args.pairs in
-    let inside : post_in (room_of c.args.h) (given) ≡ true =
+    let inside : post_in (room_of c.args.h) given ≡ true =
     sym c.fields_in.ensures ∙ c.if-not-fields_in.false in
-    says_foreign (lent) (given) true false _ (inside) (sym c.tubes_in.ensures ∙ c.if-not-tubes_in.true) refl
+    says_foreign lent given true false _ inside (sym c.tubes_in.ensures ∙ c.if-not-tubes_in.true) refl
 
 pub message-m-requires : goal.message-m-requires
 message-m-requires c =
     let given : Post =
     post_of c.args.post c.args.pairs in
-    let inside : post_in (room_of c.args.h) (given) ≡ true =
+    let inside : post_in (room_of c.args.h) given ≡ true =
     sym c.fields_in.ensures ∙ c.if-not-fields_in.false in
-    true_holds _ (inside)
+    true_holds _ inside
 
 pub fits-requires : goal.fits-requires
 fits-requires c =
@@ -51,11 +51,11 @@ fits-requires c =
     let a = c.args in memory a.h a.board.now a.cells.now a.heard.now in
     let given : Post =
     post_of c.args.post c.args.pairs in
-    let inside : post_in (room_of c.args.h) (given) ≡ true =
+    let inside : post_in (room_of c.args.h) given ≡ true =
     sym c.fields_in.ensures ∙ c.if-not-fields_in.false in
-    let small : Small (posted (given)) =
-    small_post (room_of c.args.h) (given) (true_holds _ (inside)) in
-    record { plain = plain (lent) c.requires; own = own-stored (posted (given)) _ (small) c.message-m.ensures }
+    let small : Small (posted given) =
+    small_post (room_of c.args.h) given (true_holds _ inside) in
+    record { plain = plain lent c.requires; own = own-stored (posted given) _ small c.message-m.ensures }
 
 pub returns-then-not-fits : goal.returns-then-not-fits
 returns-then-not-fits c =
@@ -63,18 +63,15 @@ returns-then-not-fits c =
     let a = c.args in memory a.h a.board.now a.cells.now a.heard.now in
     let given : Post =
     post_of c.args.post c.args.pairs in
-    let inside : post_in (room_of c.args.h) (given) ≡ true =
+    let inside : post_in (room_of c.args.h) given ≡ true =
     sym c.fields_in.ensures ∙ c.if-not-fields_in.false in
-    let known : let b = c in scanned b.args.h.tubes (posted (given)) ≡ true =
+    let known : scanned c.args.h.tubes (posted given) ≡ true =
     sym c.tubes_in.ensures ∙ c.if-not-tubes_in.false in
-    let small : Small (posted (given)) =
-    small_post (room_of c.args.h) (given) (true_holds _ (inside)) in
-    let room : let b = c in c.fits.result ≡ fits (room_of b.args.h) (read (lent)) (posted (given)) =
-    let e = c.before.before.before.before in
-    fits_means (lent) (posted (given)) _ (small) c.message-m.ensures c.fits.ensures in
-    let d = c.before.before.before in
-    let e = d.before.before in
-    says_foreign (lent) (given) true true false (inside) (known) (sym (room) ∙ c.if-not-fits.true)
+    let small : Small (posted given) =
+    small_post (room_of c.args.h) given (true_holds _ inside) in
+    let room : c.fits.result ≡ fits (room_of c.args.h) (read lent) (posted given) =
+    fits_means lent (posted given) _ small c.message-m.ensures c.fits.ensures in
+    says_foreign lent given true true false inside known (sym room ∙ c.if-not-fits.true)
 
 pub returns : goal.returns
 returns c =
@@ -82,15 +79,12 @@ returns c =
     let a = c.args in memory a.h a.board.now a.cells.now a.heard.now in
     let given : Post =
     post_of c.args.post c.args.pairs in
-    let inside : post_in (room_of c.args.h) (given) ≡ true =
+    let inside : post_in (room_of c.args.h) given ≡ true =
     sym c.fields_in.ensures ∙ c.if-not-fields_in.false in
-    let known : let b = c in scanned b.args.h.tubes (posted (given)) ≡ true =
+    let known : scanned c.args.h.tubes (posted given) ≡ true =
     sym c.tubes_in.ensures ∙ c.if-not-tubes_in.false in
-    let small : Small (posted (given)) =
-    small_post (room_of c.args.h) (given) (true_holds _ (inside)) in
-    let room : let b = c in c.fits.result ≡ fits (room_of b.args.h) (read (lent)) (posted (given)) =
-    let e = c.before.before.before.before in
-    fits_means (lent) (posted (given)) _ (small) c.message-m.ensures c.fits.ensures in
-    let d = c.before.before.before in
-    let e = d.before.before in
-    says_foreign (lent) (given) true true true (inside) (known) (sym (room) ∙ c.if-not-fits.false)
+    let small : Small (posted given) =
+    small_post (room_of c.args.h) given (true_holds _ inside) in
+    let room : c.fits.result ≡ fits (room_of c.args.h) (read lent) (posted given) =
+    fits_means lent (posted given) _ small c.message-m.ensures c.fits.ensures in
+    says_foreign lent given true true true inside known (sym room ∙ c.if-not-fits.false)

@@ -1,7 +1,5 @@
 -- Cells pass one by one.
 use mathlib.Core.Path.{◌≡◌, ap, sym, ◌∙◌}
-use mathlib.Core.Bool.{true}
-use Prim.Native.Nat.{◌-◌}
 use native.Mathlib.Omega.{arith}
 use Rattle.rules.specs.Lent.{cell_form}
 use Rattle.form.specs.Form.{cell_formed}

@@ -1,7 +1,5 @@
 -- Messages pass one by one.
 use mathlib.Core.Path.{◌≡◌, ap, sym, ◌∙◌}
-use mathlib.Core.Bool.{true}
-use Prim.Native.Nat.{◌-◌}
 use native.Mathlib.Omega.{arith}
 use Rattle.rules.specs.Lent.{msg_at, room_of}
 use Rattle.form.specs.Form.{message_fields}

@@ -1,6 +1,5 @@
 -- Bit by bit: after k messages the bits are those of the 1b messages among them.
 use mathlib.Core.Path.{◌≡◌}
-use Prim.Native.Nat.{◌-◌}
 use native.Mathlib.Omega.{arith}
 use Rattle.form.proofs.Heard.{promises_none, promises_more}
 use Rattle.form.proofs.promises.Goals as goal

@@ -29,10 +29,10 @@ refused-requires c =
     let given : Post =
     post_of c.args.post c.args.pairs in
     let call : Call =
-    foreign (given) in
-    let stopped : reply (lent) (call) ≡ c.gate-found.result =
+    foreign given in
+    let stopped : reply lent call ≡ c.gate-found.result =
     at-gate _ _ _ c.gate-found.ensures c.if-found-ne0.true in
-    let parts = named _ _ _ (stopped) c.if-found-ne0.true in record { le_k = parts.0; k_bound = parts.1 }
+    let parts = named _ _ _ stopped c.if-found-ne0.true in record { le_k = parts.0; k_bound = parts.1 }
 
 pub returns-then-found-ne0 : goal.returns-then-found-ne0
 returns-then-found-ne0 c =
@@ -41,10 +41,10 @@ returns-then-found-ne0 c =
     let given : Post =
     post_of c.args.post c.args.pairs in
     let call : Call =
-    foreign (given) in
-    let stopped : reply (lent) (call) ≡ c.gate-found.result =
+    foreign given in
+    let stopped : reply lent call ≡ c.gate-found.result =
     at-gate _ _ _ c.gate-found.ensures c.if-found-ne0.true in
-    refused_left _ _ _ (stopped) c.if-found-ne0.true c.refused.ensures
+    refused_left _ _ _ stopped c.if-found-ne0.true c.refused.ensures
 
 pub judge_foreign-k-requires : goal.judge_foreign-k-requires
 judge_foreign-k-requires c =
@@ -53,13 +53,13 @@ judge_foreign-k-requires c =
     let given : Post =
     post_of c.args.post c.args.pairs in
     let call : Call =
-    foreign (given) in
+    foreign given in
     let typed : Typed c.args.copy =
     let g = c.well_formed.0.1.1.1.1.1.1.1.1.1 in record { stations = search rules; serials = search rules } in
-    let gated : let b = c in first (gate (lent) (call)) ≡ 0 =
+    let gated : first (gate lent call) ≡ 0 =
     sym c.gate-found.ensures ∙ c.if-found-ne0.false in
-    let whole : Whole (lent) =
-    let b = c in past (lent) (call) (typed) (gated) in
+    let whole : Whole lent =
+    past lent call typed gated in
     whole
 
 pub refused-requires-then-k-ne0 : goal.refused-requires-then-k-ne0
@@ -69,12 +69,12 @@ refused-requires-then-k-ne0 c =
     let given : Post =
     post_of c.args.post c.args.pairs in
     let call : Call =
-    foreign (given) in
-    let gated : first (gate (lent) (call)) ≡ 0 =
+    foreign given in
+    let gated : first (gate lent call) ≡ 0 =
     sym c.gate-found.ensures ∙ c.if-found-ne0.false in
-    let judged : reply (lent) (call) ≡ c.judge_foreign-k.result =
-    by_judge _ _ _ (gated) c.judge_foreign-k.ensures in
-    let parts = named _ _ _ (judged) c.if-k-ne0.true in record { le_k = parts.0; k_bound = parts.1 }
+    let judged : reply lent call ≡ c.judge_foreign-k.result =
+    by_judge _ _ _ gated c.judge_foreign-k.ensures in
+    let parts = named _ _ _ judged c.if-k-ne0.true in record { le_k = parts.0; k_bound = parts.1 }
 
 pub returns-then-k-ne0 : goal.returns-then-k-ne0
 returns-then-k-ne0 c =
@@ -83,12 +83,12 @@ returns-then-k-ne0 c =
     let given : Post =
     post_of c.args.post c.args.pairs in
     let call : Call =
-    foreign (given) in
-    let gated : first (gate (lent) (call)) ≡ 0 =
+    foreign given in
+    let gated : first (gate lent call) ≡ 0 =
     sym c.gate-found.ensures ∙ c.if-found-ne0.false in
-    let judged : reply (lent) (call) ≡ c.judge_foreign-k.result =
-    by_judge _ _ _ (gated) c.judge_foreign-k.ensures in
-    refused_left _ _ _ (judged) c.if-k-ne0.true c.refused-then-k-ne0.ensures
+    let judged : reply lent call ≡ c.judge_foreign-k.result =
+    by_judge _ _ _ gated c.judge_foreign-k.ensures in
+    refused_left _ _ _ judged c.if-k-ne0.true c.refused-then-k-ne0.ensures
 
 pub message-m-requires : goal.message-m-requires
 unfolding fields
@@ -98,18 +98,18 @@ message-m-requires c =
     let lent : Memory =
     let a = c.args in memory a.copy a.board.now a.cells.now a.heard.now in
     let call : Call =
-    foreign (given) in
+    foreign given in
     let typed : Typed c.args.copy =
     let g = c.well_formed.0.1.1.1.1.1.1.1.1.1 in record { stations = search rules; serials = search rules } in
-    let gated : let b = c in first (gate (lent) (call)) ≡ 0 =
+    let gated : first (gate lent call) ≡ 0 =
     sym c.gate-found.ensures ∙ c.if-found-ne0.false in
-    let judged : reply (lent) (call) ≡ c.judge_foreign-k.result =
-    by_judge _ _ _ (gated) c.judge_foreign-k.ensures in
-    let accepted : let b = c in reply (lent) (call) ≡ 0 =
+    let judged : reply lent call ≡ c.judge_foreign-k.result =
+    by_judge _ _ _ gated c.judge_foreign-k.ensures in
+    let accepted : reply lent call ≡ 0 =
     judged ∙ c.if-k-ne0.false in
-    let past_all : let b = c in Passed (lent) (call) =
-    let b = c in passed (lent) (call) (typed) (accepted) in
-    let inside : let b = c in T (post_in (room_of b.args.copy) (given)) =
+    let past_all : Passed lent call =
+    passed lent call typed accepted in
+    let inside : T (post_in (room_of c.args.copy) given) =
     (past_all).fields in
     inside
 
@@ -120,21 +120,20 @@ post-out-requires c =
     let given : Post =
     post_of c.args.post c.args.pairs in
     let call : Call =
-    foreign (given) in
+    foreign given in
     let typed : Typed c.args.copy =
     let g = c.well_formed.0.1.1.1.1.1.1.1.1.1 in record { stations = search rules; serials = search rules } in
-    let gated : let b = c in first (gate (lent) (call)) ≡ 0 =
+    let gated : first (gate lent call) ≡ 0 =
     sym c.gate-found.ensures ∙ c.if-found-ne0.false in
-    let judged : reply (lent) (call) ≡ c.judge_foreign-k.result =
-    by_judge _ _ _ (gated) c.judge_foreign-k.ensures in
-    let accepted : let b = c in reply (lent) (call) ≡ 0 =
+    let judged : reply lent call ≡ c.judge_foreign-k.result =
+    by_judge _ _ _ gated c.judge_foreign-k.ensures in
+    let accepted : reply lent call ≡ 0 =
     judged ∙ c.if-k-ne0.false in
-    let past_all : let b = c in Passed (lent) (call) =
-    let b = c in passed (lent) (call) (typed) (accepted) in
-    let fits : let b = c in Postable b.args.copy b.args.board.now c.message-m.result =
-    let b = c in
+    let past_all : Passed lent call =
+    passed lent call typed accepted in
+    let fits : Postable c.args.copy c.args.board.now c.message-m.result =
     let p = past_all in
-    postable (lent) (posted (given)) _ c.message-m.ensures p.size p.form (ready (lent) (call) p) in
+    postable lent (posted given) _ c.message-m.ensures p.size p.form (ready lent call p) in
     fits
 
 pub returns : goal.returns
@@ -145,32 +144,27 @@ returns c =
     let given : Post =
     post_of c.args.post c.args.pairs in
     let call : Call =
-    foreign (given) in
-    let gated : let b = c in first (gate (lent) (call)) ≡ 0 =
+    foreign given in
+    let gated : first (gate lent call) ≡ 0 =
     sym c.gate-found.ensures ∙ c.if-found-ne0.false in
-    let judged : reply (lent) (call) ≡ c.judge_foreign-k.result =
-    by_judge _ _ _ (gated) c.judge_foreign-k.ensures in
-    let accepted : let b = c in reply (lent) (call) ≡ 0 =
+    let judged : reply lent call ≡ c.judge_foreign-k.result =
+    by_judge _ _ _ gated c.judge_foreign-k.ensures in
+    let accepted : reply lent call ≡ 0 =
     judged ∙ c.if-k-ne0.false in
     let typed : Typed c.args.copy =
     let g = c.well_formed.0.1.1.1.1.1.1.1.1.1 in record { stations = search rules; serials = search rules } in
-    let past_all : let b = c in Passed (lent) (call) =
-    let b = c in passed (lent) (call) (typed) (accepted) in
-    let fits : let b = c in Postable b.args.copy b.args.board.now c.message-m.result =
-    let b = c in
+    let past_all : Passed lent call =
+    passed lent call typed accepted in
+    let fits : Postable c.args.copy c.args.board.now c.message-m.result =
     let p = past_all in
-    postable (lent) (posted (given)) _ c.message-m.ensures p.size p.form (ready (lent) (call) p) in
-    let whole : Whole (lent) =
-    let b = c in past (lent) (call) (typed) (gated) in
-    let inside : let b = c in T (post_in (room_of b.args.copy) (given)) =
+    postable lent (posted given) _ c.message-m.ensures p.size p.form (ready lent call p) in
+    let whole : Whole lent =
+    past lent call typed gated in
+    let inside : T (post_in (room_of c.args.copy) given) =
     (past_all).fields in
     let low : c.message-m.result.node < 8 =
-    let b = c in
-    omega (arith, ap (λ (t : Message). t.node) c.message-m.ensures ∙ poster-stored (given), poster_in (room_of b.args.copy) (given) (inside), (bounds (lent) (whole)).nodes) in
-    let d = c.before.before.before.before in
-    let m = d.before.before in
-    let b = c in
+    omega (arith, ap (λ (t : Message). t.node) c.message-m.ensures ∙ poster-stored given, poster_in (room_of c.args.copy) given inside, (bounds lent whole).nodes) in
     let r = accepted in
-    accepted_left (lent) (given) _ m.message-m.ensures
-    (acts.posted (lent) (posted (given)) _ m.message-m.ensures (ready (lent) (call) (past_all)).small d.post-out.ensures)
-    (counted_as _ _ _ (fits) d.post-out.ensures) (low) r
+    accepted_left lent given _ c.message-m.ensures
+    (acts.posted lent (posted given) _ c.message-m.ensures (ready lent call past_all).small c.post-out.ensures)
+    (counted_as _ _ _ fits c.post-out.ensures) low r

@@ -5,10 +5,9 @@ use Rattle.page.proofs.kept.Goals as goal
 pub returns : goal.returns
 unfolding kept
 returns c =
-    let counts = c.before.before in
     λ i. record {
-      due = counts.requires i;
-      counts = counts.counted-counts.ensures i;
+      due = c.requires i;
+      counts = c.counted-counts.ensures i;
       quorums = c.listing-q.ensures i;
       weaks = c.listing-w.ensures i;
     }

@@ -46,7 +46,7 @@ returns c =
     let g = c.well_formed.0 in search rules in
     let weaks_long : length c.args.h.weaks ≡ 65 =
     let g = c.well_formed.0.1.1.1.1 in search rules in
-    started (heads_of c.args.h) (lent) _ _
-    (c.held-listed.ensures.by_index c.args.h.quorums (quorums_long)) (c.held-backers.ensures.by_index c.args.h.weaks (weaks_long))
+    started (heads_of c.args.h) lent _ _
+    (c.held-listed.ensures.by_index c.args.h.quorums quorums_long) (c.held-backers.ensures.by_index c.args.h.weaks weaks_long)
     _ _ c.open-opening.ensures _ _ (ap (λ (x : Answer). x.number) c.in_numbers-answer.ensures) c.due_after.ensures
     _ c.due_now-heads.ensures

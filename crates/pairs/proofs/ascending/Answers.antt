@@ -1,7 +1,6 @@
 -- Ascending: no neighbours passed over are out of order.
-use Prim.Native.Nat.{◌-◌}
 use mathlib.Core.Path.{ap, sym, ◌∙◌}
-use mathlib.Core.Bool.{false, not}
+use mathlib.Core.Bool.{not}
 use native.Mathlib.Omega.{arith}
 use Rattle.rules.proofs.Scan.{below_more}
 use Rattle.pairs.proofs.Arrays.{falls, ascend_stop, ascend_end}

@@ -1,7 +1,6 @@
 -- Each pair passes: none of those passed over fails.
-use Prim.Native.Nat.{◌-◌}
 use mathlib.Core.Path.{◌≡◌, ap, sym, ◌∙◌}
-use mathlib.Core.Bool.{false, not}
+use mathlib.Core.Bool.{not}
 use native.Mathlib.Omega.{arith}
 use Rattle.rules.proofs.Scan.{pair_at, below_more, below_here}
 use Rattle.pairs.specs.Pairs.{passes}

@@ -1,5 +1,5 @@
 -- Byte by byte: the sum so far and what is left make the whole.
-use Prim.Native.Nat.{ℕ, ◌-◌, ◌<◌}
+use Prim.Native.Nat.{ℕ, ◌<◌}
 use mathlib.Core.Path.{◌≡◌, ap, ◌∙◌}
 use native.Mathlib.Omega.{arith}
 use mir.Syntax.{w8}

@@ -1,5 +1,4 @@
 -- A tube removed: the pairs that stay are those passed over without it, packed from the front.
-use Prim.Native.Nat.{◌-◌}
 use mathlib.Core.Path.{◌≡◌}
 use native.Mathlib.Omega.{arith}
 use Rattle.rules.specs.Lent.{pairs_of}

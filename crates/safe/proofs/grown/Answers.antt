@@ -1,8 +1,7 @@
 -- The sets for each c: those passed have the message's node where it passes, the others are as they were.
-use Prim.Native.Nat.{◌-◌}
 use mathlib.Core.Path.{◌≡◌, refl, ◌∙◌}
 use native.Mathlib.Omega.{arith}
-use lib.ListN.{length, get_or, length-set}
+use lib.ListN.{get_or, length-set}
 use Rattle.safe.specs.Safe.{ask_at, with_teller}
 use Rattle.safe.proofs.Tellers.{fill_here, fill_past}
 use borrow.Author.Rules.{rules}

@@ -1,4 +1,4 @@
--- Known safe: part (i) of the gathered sets, or else part (ii).
+-- Known safe: part i of the gathered sets, or else part (ii).
 use mathlib.Core.Path.{ap, sym, ◌∙◌}
 use mathlib.Core.Bool.{Bool, ◌||◌}
 use Rattle.rules.specs.Tests.{any_below}

@@ -1,4 +1,4 @@
--- Part (ii) for one c: the quorums decide first, then the weak sets.
+-- Part ii for one c: the quorums decide first, then the weak sets.
 use mathlib.Core.Path.{ap, sym, ◌∙◌}
 use mathlib.Core.Bool.{Bool, ◌&&◌}
 use lib.ListN.{get_or}

@@ -1,7 +1,5 @@
 -- Part (ii): no c passed over serves.
-use Prim.Native.Nat.{◌-◌}
 use mathlib.Core.Path.{◌≡◌, sym, ◌∙◌}
-use mathlib.Core.Bool.{false}
 use native.Mathlib.Omega.{arith}
 use Rattle.rules.proofs.Scan.{below_more, below_here}
 use Rattle.safe.specs.Safe.{safe_at}

@@ -65,11 +65,9 @@ returns c =
     length-take-le _ _ (omega (arith, c.well_formed.0.1.1)) in
     let roomy : let t = c.take_line-taken in t.result.end + 8226 ≤ length t.new.out =
     let t = c.take_line-taken in
-    let b = c.before.before.before.before.before.before.before.before.before.before.before.before.before.before.before.before.before in
-    let q : 8294 ≤ length b.args.out.now = b.requires.in_bounds_2 in
-    let same : length t.new.out ≡ length b.args.out.now = t.auto.out in
+    let q : 8294 ≤ length c.args.out.now = c.requires.in_bounds_2 in
+    let same : length t.new.out ≡ length c.args.out.now = t.auto.out in
     omega (arith, t.ensures.end_bound) in
-    let b = c.before.before.before.before.before.before.before.before.before.before.before.before.before.before.before.before.before.before.before.before.before.before.before.before.before.before.before.before.before.before.before.before.before.before.before.before.before.before.before in
     let t = c.take_line-taken in
     let w = c.end_sheet-more in
     let ys = ends (sheet_of (heads_of t.result.heads) (memory t.result.house t.new.board t.new.cells t.new.heard)) in

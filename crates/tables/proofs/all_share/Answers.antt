@@ -1,7 +1,7 @@
 -- Each set shares enough with all of them, one by one.
 use mathlib.Core.Path.{◌≡◌, sym, ◌∙◌}
-use mathlib.Core.Bool.{Bool, true}
-use Prim.Native.Nat.{ℕ, ◌-◌}
+use mathlib.Core.Bool.{Bool}
+use Prim.Native.Nat.{ℕ}
 use native.Mathlib.Omega.{arith}
 use lib.ListN.{get_or, take}
 use Rattle.rules.specs.Tests.{all}

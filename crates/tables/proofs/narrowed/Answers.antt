@@ -1,11 +1,10 @@
 -- Set by set: so far the array is the sets passed with zeros after them.
 use mathlib.Core.Path.{◌≡◌, refl, ap, ◌∙◌}
 use mathlib.Core.List.{List}
-use Prim.Native.Nat.{ℕ, ◌-◌}
+use Prim.Native.Nat.{ℕ}
 use native.Mathlib.Omega.{arith}
 use lib.ListN.{length, get_or, take, set}
 use lib.Seq.{take-length}
-use Rattle.rules.specs.Tests.{fit}
 use Rattle.rules.proofs.Codec.{length-fit}
 use Rattle.tables.proofs.Lists.{fit-more}
 use Rattle.tables.proofs.narrowed.Goals as goal

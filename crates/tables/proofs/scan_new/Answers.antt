@@ -1,7 +1,6 @@
 -- No earlier scan is the same, one by one.
 use mathlib.Core.Path.{◌≡◌, ap, sym}
-use mathlib.Core.Bool.{true, not}
-use Prim.Native.Nat.{◌-◌}
+use mathlib.Core.Bool.{not}
 use native.Mathlib.Omega.{arith}
 use Rattle.rules.proofs.Each.{each_more, each_stop}
 use Rattle.tables.proofs.scan_new.Invariants.{other}

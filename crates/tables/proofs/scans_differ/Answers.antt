@@ -1,7 +1,5 @@
 -- Scans pass one by one: each is none of those before it.
 use mathlib.Core.Path.{◌≡◌, sym, ◌∙◌}
-use mathlib.Core.Bool.{true}
-use Prim.Native.Nat.{◌-◌}
 use native.Mathlib.Omega.{arith}
 use Rattle.tables.specs.Tables.{new_scan}
 use Rattle.rules.proofs.Each.{each_more, each_stop}

@@ -1,7 +1,6 @@
 -- Sets pass one by one.
 use mathlib.Core.Path.{◌≡◌, sym, ◌∙◌}
-use mathlib.Core.Bool.{true}
-use Prim.Native.Nat.{◌-◌, ◌^◌}
+use Prim.Native.Nat.{◌^◌}
 use native.Mathlib.Omega.{arith}
 use borrow.Author.Tests.{lt-ltb, le-ltb}
 use lib.ListN.{length, get_or}

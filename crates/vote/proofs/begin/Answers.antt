@@ -19,7 +19,7 @@ returns-then-not-vote_in c =
     let lent : Memory =
     let a = c.args in memory a.h a.board.now a.cells.now a.heard.now in
     let a = c.args in
-    says-begun (lent) a.row a.node a.ballot a.tube false _ _ (sym c.vote_in.ensures ∙ c.if-not-vote_in.true) refl refl
+    says-begun lent a.row a.node a.ballot a.tube false _ _ (sym c.vote_in.ensures ∙ c.if-not-vote_in.true) refl refl
 
 pub returns-then-not-on_intake : goal.returns-then-not-on_intake
 returns-then-not-on_intake c =
@@ -28,7 +28,7 @@ returns-then-not-on_intake c =
     let six : let a = c.args in limits (room_of a.h) (m2av a.row a.ballot a.node a.tube) ≡ true =
     sym c.vote_in.ensures ∙ c.if-not-vote_in.false in
     let a = c.args in
-    says-begun (lent) a.row a.node a.ballot a.tube true false _ (six) (sym c.on_intake.ensures ∙ c.if-not-on_intake.true) refl
+    says-begun lent a.row a.node a.ballot a.tube true false _ six (sym c.on_intake.ensures ∙ c.if-not-on_intake.true) refl
 
 pub overflow_cast-row : goal.overflow_cast-row
 overflow_cast-row c =
@@ -37,7 +37,7 @@ overflow_cast-row c =
     let six : let a = c.args in limits (room_of a.h) (m2av a.row a.ballot a.node a.tube) ≡ true =
     sym c.vote_in.ensures ∙ c.if-not-vote_in.false in
     let small : let a = c.args in At (room_of a.h) a.row a.node × (a.ballot ≤ 15) × (a.tube ≤ 64) =
-    let a = c.args in inside (lent) a.row a.node a.ballot a.tube (six) in
+    let a = c.args in inside lent a.row a.node a.ballot a.tube six in
     omega (arith, (small).0)
 
 pub overflow_cast-node : goal.overflow_cast-node
@@ -47,7 +47,7 @@ overflow_cast-node c =
     let six : let a = c.args in limits (room_of a.h) (m2av a.row a.ballot a.node a.tube) ≡ true =
     sym c.vote_in.ensures ∙ c.if-not-vote_in.false in
     let small : let a = c.args in At (room_of a.h) a.row a.node × (a.ballot ≤ 15) × (a.tube ≤ 64) =
-    let a = c.args in inside (lent) a.row a.node a.ballot a.tube (six) in
+    let a = c.args in inside lent a.row a.node a.ballot a.tube six in
     omega (arith, (small).0)
 
 pub place-k-requires : goal.place-k-requires
@@ -57,7 +57,7 @@ place-k-requires c =
     let six : let a = c.args in limits (room_of a.h) (m2av a.row a.ballot a.node a.tube) ≡ true =
     sym c.vote_in.ensures ∙ c.if-not-vote_in.false in
     let small : let a = c.args in At (room_of a.h) a.row a.node × (a.ballot ≤ 15) × (a.tube ≤ 64) =
-    let a = c.args in inside (lent) a.row a.node a.ballot a.tube (six) in
+    let a = c.args in inside lent a.row a.node a.ballot a.tube six in
     (small).0.low
 
 pub cell_at-c-requires : goal.cell_at-c-requires
@@ -67,7 +67,7 @@ cell_at-c-requires c =
     let six : let a = c.args in limits (room_of a.h) (m2av a.row a.ballot a.node a.tube) ≡ true =
     sym c.vote_in.ensures ∙ c.if-not-vote_in.false in
     let small : let a = c.args in At (room_of a.h) a.row a.node × (a.ballot ≤ 15) × (a.tube ≤ 64) =
-    let a = c.args in inside (lent) a.row a.node a.ballot a.tube (six) in
+    let a = c.args in inside lent a.row a.node a.ballot a.tube six in
     let parts = reachable c.requires (small).0 _ c.place-k.ensures in record { k_bound = parts.0; k_in_bounds = parts.1 }
 
 pub overflow_cast-ballot : goal.overflow_cast-ballot
@@ -77,7 +77,7 @@ overflow_cast-ballot c =
     let six : let a = c.args in limits (room_of a.h) (m2av a.row a.ballot a.node a.tube) ≡ true =
     sym c.vote_in.ensures ∙ c.if-not-vote_in.false in
     let small : let a = c.args in At (room_of a.h) a.row a.node × (a.ballot ≤ 15) × (a.tube ≤ 64) =
-    let a = c.args in inside (lent) a.row a.node a.ballot a.tube (six) in
+    let a = c.args in inside lent a.row a.node a.ballot a.tube six in
     omega (arith, (small).1)
 
 pub overflow_add-ballot : goal.overflow_add-ballot
@@ -87,7 +87,7 @@ overflow_add-ballot c =
     let six : let a = c.args in limits (room_of a.h) (m2av a.row a.ballot a.node a.tube) ≡ true =
     sym c.vote_in.ensures ∙ c.if-not-vote_in.false in
     let small : let a = c.args in At (room_of a.h) a.row a.node × (a.ballot ≤ 15) × (a.tube ≤ 64) =
-    let a = c.args in inside (lent) a.row a.node a.ballot a.tube (six) in
+    let a = c.args in inside lent a.row a.node a.ballot a.tube six in
     omega (arith, (small).1)
 
 pub returns-then-not-height_at_most : goal.returns-then-not-height_at_most
@@ -99,17 +99,13 @@ returns-then-not-height_at_most c =
     let seven : let a = c.args in leb a.tube a.h.tubes ≡ true =
     sym c.on_intake.ensures ∙ c.if-not-on_intake.false in
     let small : let a = c.args in At (room_of a.h) a.row a.node × (a.ballot ≤ 15) × (a.tube ≤ 64) =
-    let a = c.args in inside (lent) a.row a.node a.ballot a.tube (six) in
-    let eight : let s = c in c.height_at_most.result ≡ leb ((read (lent)).cells s.args.row s.args.node).max_bal (suc s.args.ballot) =
-    let e = c.before.before.before in
-    let s = c in
+    let a = c.args in inside lent a.row a.node a.ballot a.tube six in
+    let eight : c.height_at_most.result ≡ leb ((read lent).cells c.args.row c.args.node).max_bal (suc c.args.ballot) =
     let k = c.place-k.ensures in
-    c.height_at_most.ensures ∙ (λ i. leb (own_height s.requires (small).0 _ k _ c.cell_at-c.ensures i) (add-one s.args.ballot i)) in
-    let last : (x : Bool) → c.height_at_most.result ≡ x → let s = c in let a = s.args in pick x 0 8 ≡ begun (lent) a.row a.node a.ballot a.tube =
-    λ x e. let d = c.before.before.before in
-    let s = c in
-    let a = s.args in
-    says-begun (lent) a.row a.node a.ballot a.tube true true x (six) (seven) (sym (eight) ∙ e) in
+    c.height_at_most.ensures ∙ (λ i. leb (own_height c.requires (small).0 _ k _ c.cell_at-c.ensures i) (add-one c.args.ballot i)) in
+    let last : (x : Bool) → c.height_at_most.result ≡ x → let a = c.args in pick x 0 8 ≡ begun lent a.row a.node a.ballot a.tube =
+    λ x e. let a = c.args in
+    says-begun lent a.row a.node a.ballot a.tube true true x six seven (sym eight ∙ e) in
     last false (c.if-not-height_at_most.true)
 
 pub returns : goal.returns
@@ -121,15 +117,11 @@ returns c =
     let seven : let a = c.args in leb a.tube a.h.tubes ≡ true =
     sym c.on_intake.ensures ∙ c.if-not-on_intake.false in
     let small : let a = c.args in At (room_of a.h) a.row a.node × (a.ballot ≤ 15) × (a.tube ≤ 64) =
-    let a = c.args in inside (lent) a.row a.node a.ballot a.tube (six) in
-    let eight : let s = c in c.height_at_most.result ≡ leb ((read (lent)).cells s.args.row s.args.node).max_bal (suc s.args.ballot) =
-    let e = c.before.before.before in
-    let s = c in
+    let a = c.args in inside lent a.row a.node a.ballot a.tube six in
+    let eight : c.height_at_most.result ≡ leb ((read lent).cells c.args.row c.args.node).max_bal (suc c.args.ballot) =
     let k = c.place-k.ensures in
-    c.height_at_most.ensures ∙ (λ i. leb (own_height s.requires (small).0 _ k _ c.cell_at-c.ensures i) (add-one s.args.ballot i)) in
-    let last : (x : Bool) → c.height_at_most.result ≡ x → let s = c in let a = s.args in pick x 0 8 ≡ begun (lent) a.row a.node a.ballot a.tube =
-    λ x e. let d = c.before.before.before in
-    let s = c in
-    let a = s.args in
-    says-begun (lent) a.row a.node a.ballot a.tube true true x (six) (seven) (sym (eight) ∙ e) in
+    c.height_at_most.ensures ∙ (λ i. leb (own_height c.requires (small).0 _ k _ c.cell_at-c.ensures i) (add-one c.args.ballot i)) in
+    let last : (x : Bool) → c.height_at_most.result ≡ x → let a = c.args in pick x 0 8 ≡ begun lent a.row a.node a.ballot a.tube =
+    λ x e. let a = c.args in
+    says-begun lent a.row a.node a.ballot a.tube true true x six seven (sym eight ∙ e) in
     last true (c.if-not-height_at_most.false)

@@ -20,65 +20,63 @@ returns-then-early-ne0 c =
     let lent : Memory =
     let a = c.args in memory a.h a.board.now a.cells.now a.heard.now in
     let a = c.args in
-    early_2b (lent) a.row a.node a.ballot a.tube _ c.begin-early.ensures c.if-early-ne0.true
+    early_2b lent a.row a.node a.ballot a.tube _ c.begin-early.ensures c.if-early-ne0.true
 
 pub overflow_cast-r : goal.overflow_cast-r
 overflow_cast-r c =
     let lent : Memory =
     let a = c.args in memory a.h a.board.now a.cells.now a.heard.now in
-    let went_on : let a = c.args in begun (lent) a.row a.node a.ballot a.tube ≡ 0 =
+    let went_on : let a = c.args in begun lent a.row a.node a.ballot a.tube ≡ 0 =
     sym c.begin-early.ensures ∙ c.if-early-ne0.false in
     let small : let a = c.args in At (room_of a.h) a.row a.node × (a.ballot ≤ 15) × (a.tube ≤ 64) =
-    let a = c.args in begun-inside (lent) a.row a.node a.ballot a.tube (went_on) in
+    let a = c.args in begun-inside lent a.row a.node a.ballot a.tube went_on in
     omega (arith, (small).0)
 
 pub overflow_cast-n : goal.overflow_cast-n
 overflow_cast-n c =
     let lent : Memory =
     let a = c.args in memory a.h a.board.now a.cells.now a.heard.now in
-    let went_on : let a = c.args in begun (lent) a.row a.node a.ballot a.tube ≡ 0 =
+    let went_on : let a = c.args in begun lent a.row a.node a.ballot a.tube ≡ 0 =
     sym c.begin-early.ensures ∙ c.if-early-ne0.false in
     let small : let a = c.args in At (room_of a.h) a.row a.node × (a.ballot ≤ 15) × (a.tube ≤ 64) =
-    let a = c.args in begun-inside (lent) a.row a.node a.ballot a.tube (went_on) in
+    let a = c.args in begun-inside lent a.row a.node a.ballot a.tube went_on in
     omega (arith, (small).0)
 
 pub overflow_cast-b : goal.overflow_cast-b
 overflow_cast-b c =
     let lent : Memory =
     let a = c.args in memory a.h a.board.now a.cells.now a.heard.now in
-    let went_on : let a = c.args in begun (lent) a.row a.node a.ballot a.tube ≡ 0 =
+    let went_on : let a = c.args in begun lent a.row a.node a.ballot a.tube ≡ 0 =
     sym c.begin-early.ensures ∙ c.if-early-ne0.false in
     let small : let a = c.args in At (room_of a.h) a.row a.node × (a.ballot ≤ 15) × (a.tube ≤ 64) =
-    let a = c.args in begun-inside (lent) a.row a.node a.ballot a.tube (went_on) in
+    let a = c.args in begun-inside lent a.row a.node a.ballot a.tube went_on in
     omega (arith, (small).1)
 
 pub overflow_cast-v : goal.overflow_cast-v
 overflow_cast-v c =
     let lent : Memory =
     let a = c.args in memory a.h a.board.now a.cells.now a.heard.now in
-    let went_on : let a = c.args in begun (lent) a.row a.node a.ballot a.tube ≡ 0 =
+    let went_on : let a = c.args in begun lent a.row a.node a.ballot a.tube ≡ 0 =
     sym c.begin-early.ensures ∙ c.if-early-ne0.false in
     let small : let a = c.args in At (room_of a.h) a.row a.node × (a.ballot ≤ 15) × (a.tube ≤ 64) =
-    let a = c.args in begun-inside (lent) a.row a.node a.ballot a.tube (went_on) in
+    let a = c.args in begun-inside lent a.row a.node a.ballot a.tube went_on in
     omega (arith, (small).2)
 
 pub covered-requires : goal.covered-requires
 covered-requires c =
     let lent : Memory =
     let a = c.args in memory a.h a.board.now a.cells.now a.heard.now in
-    let p = plain (lent) c.requires in
-    record { nodes_bound = ((bounds (lent) c.requires).nodes, (lists_in (lent) c.requires).0); count_bound = p.count; count_in_bounds = p.long; le_kind = omega arith }
+    let p = plain lent c.requires in
+    record { nodes_bound = ((bounds lent c.requires).nodes, (lists_in lent c.requires).0); count_bound = p.count; count_in_bounds = p.long; le_kind = omega arith }
 
 pub returns-then-not-covered : goal.returns-then-not-covered
 returns-then-not-covered c =
     let lent : Memory =
     let a = c.args in memory a.h a.board.now a.cells.now a.heard.now in
-    let went_on : let s = c in let a = s.args in begun (lent) a.row a.node a.ballot a.tube ≡ 0 =
+    let went_on : let a = c.args in begun lent a.row a.node a.ballot a.tube ≡ 0 =
     sym c.begin-early.ensures ∙ c.if-early-ne0.false in
-    let e = c.before.before in
-    let s = c in
-    let a = s.args in
-    says_2b (lent) a.row a.node a.ballot a.tube (went_on) false _ (sym c.covered.ensures ∙ c.if-not-covered.true) refl
+    let a = c.args in
+    says_2b lent a.row a.node a.ballot a.tube went_on false _ (sym c.covered.ensures ∙ c.if-not-covered.true) refl
 
 pub fits-requires : goal.fits-requires
 unfolding stored
@@ -86,24 +84,22 @@ fits-requires c =
     let lent : Memory =
     let a = c.args in memory a.h a.board.now a.cells.now a.heard.now in
     let a = c.args in
-    record { plain = plain (lent) c.requires; own = own-stored (m2b a.row a.ballot a.node a.tube) _ tt c.bare-m.ensures }
+    record { plain = plain lent c.requires; own = own-stored (m2b a.row a.ballot a.node a.tube) _ tt c.bare-m.ensures }
 
 pub returns-then-not-fits : goal.returns-then-not-fits
 unfolding stored
 returns-then-not-fits c =
     let lent : Memory =
     let a = c.args in memory a.h a.board.now a.cells.now a.heard.now in
-    let went_on : let s = c in let a = s.args in begun (lent) a.row a.node a.ballot a.tube ≡ 0 =
+    let went_on : let a = c.args in begun lent a.row a.node a.ballot a.tube ≡ 0 =
     sym c.begin-early.ensures ∙ c.if-early-ne0.false in
-    let relays : let s = c in let a = s.args in relayed (room_of a.h) (read (lent)) a.row a.ballot a.tube ≡ true =
+    let relays : let a = c.args in relayed (room_of a.h) (read lent) a.row a.ballot a.tube ≡ true =
     sym c.covered.ensures ∙ c.if-not-covered.false in
-    let room : let s = c in let a = s.args in c.fits.result ≡ fits (room_of a.h) (read (lent)) (m2b a.row a.ballot a.node a.tube) =
-    let s = c in let a = s.args in fits_means (lent) (m2b a.row a.ballot a.node a.tube) _ tt c.bare-m.ensures c.fits.ensures in
-    let last : (x : Bool) → c.fits.result ≡ x → let s = c in let a = s.args in pick x 0 15 ≡ verdict (lent) (c2b a.row a.node a.ballot a.tube) =
-    λ x e. let d = c.before.before in
-    let s = c in
-    let a = s.args in
-    says_2b (lent) a.row a.node a.ballot a.tube (went_on) true x (relays) (sym (room) ∙ e) in
+    let room : let a = c.args in c.fits.result ≡ fits (room_of a.h) (read lent) (m2b a.row a.ballot a.node a.tube) =
+    let a = c.args in fits_means lent (m2b a.row a.ballot a.node a.tube) _ tt c.bare-m.ensures c.fits.ensures in
+    let last : (x : Bool) → c.fits.result ≡ x → let a = c.args in pick x 0 15 ≡ verdict lent (c2b a.row a.node a.ballot a.tube) =
+    λ x e. let a = c.args in
+    says_2b lent a.row a.node a.ballot a.tube went_on true x relays (sym room ∙ e) in
     last false (c.if-not-fits.true)
 
 pub returns : goal.returns
@@ -111,15 +107,13 @@ unfolding stored
 returns c =
     let lent : Memory =
     let a = c.args in memory a.h a.board.now a.cells.now a.heard.now in
-    let went_on : let s = c in let a = s.args in begun (lent) a.row a.node a.ballot a.tube ≡ 0 =
+    let went_on : let a = c.args in begun lent a.row a.node a.ballot a.tube ≡ 0 =
     sym c.begin-early.ensures ∙ c.if-early-ne0.false in
-    let relays : let s = c in let a = s.args in relayed (room_of a.h) (read (lent)) a.row a.ballot a.tube ≡ true =
+    let relays : let a = c.args in relayed (room_of a.h) (read lent) a.row a.ballot a.tube ≡ true =
     sym c.covered.ensures ∙ c.if-not-covered.false in
-    let room : let s = c in let a = s.args in c.fits.result ≡ fits (room_of a.h) (read (lent)) (m2b a.row a.ballot a.node a.tube) =
-    let s = c in let a = s.args in fits_means (lent) (m2b a.row a.ballot a.node a.tube) _ tt c.bare-m.ensures c.fits.ensures in
-    let last : (x : Bool) → c.fits.result ≡ x → let s = c in let a = s.args in pick x 0 15 ≡ verdict (lent) (c2b a.row a.node a.ballot a.tube) =
-    λ x e. let d = c.before.before in
-    let s = c in
-    let a = s.args in
-    says_2b (lent) a.row a.node a.ballot a.tube (went_on) true x (relays) (sym (room) ∙ e) in
+    let room : let a = c.args in c.fits.result ≡ fits (room_of a.h) (read lent) (m2b a.row a.ballot a.node a.tube) =
+    let a = c.args in fits_means lent (m2b a.row a.ballot a.node a.tube) _ tt c.bare-m.ensures c.fits.ensures in
+    let last : (x : Bool) → c.fits.result ≡ x → let a = c.args in pick x 0 15 ≡ verdict lent (c2b a.row a.node a.ballot a.tube) =
+    λ x e. let a = c.args in
+    says_2b lent a.row a.node a.ballot a.tube went_on true x relays (sym room ∙ e) in
     last true (c.if-not-fits.false)

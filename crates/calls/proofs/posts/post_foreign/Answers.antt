@@ -16,9 +16,9 @@ refused-requires c =
     let a = c.args in memory a.house a.board.now a.cells.now a.heard.now in
     let call : Call =
     foreign (post_of c.args.post c.args.pairs) in
-    let stopped : reply (lent) (call) ≡ c.gate-found.result =
+    let stopped : reply lent call ≡ c.gate-found.result =
     at-gate _ _ _ c.gate-found.ensures c.if-found-ne0.true in
-    let parts = named _ _ _ (stopped) c.if-found-ne0.true in record { le_k = parts.0; k_bound = parts.1 }
+    let parts = named _ _ _ stopped c.if-found-ne0.true in record { le_k = parts.0; k_bound = parts.1 }
 
 pub returns-then-found-ne0 : goal.returns-then-found-ne0
 returns-then-found-ne0 c =
@@ -26,9 +26,9 @@ returns-then-found-ne0 c =
     let a = c.args in memory a.house a.board.now a.cells.now a.heard.now in
     let call : Call =
     foreign (post_of c.args.post c.args.pairs) in
-    let stopped : reply (lent) (call) ≡ c.gate-found.result =
+    let stopped : reply lent call ≡ c.gate-found.result =
     at-gate _ _ _ c.gate-found.ensures c.if-found-ne0.true in
-    refused _ _ _ (stopped) c.if-found-ne0.true c.refused.ensures
+    refused _ _ _ stopped c.if-found-ne0.true c.refused.ensures
 
 pub judge_foreign-k-requires : goal.judge_foreign-k-requires
 judge_foreign-k-requires c =
@@ -38,10 +38,10 @@ judge_foreign-k-requires c =
     foreign (post_of c.args.post c.args.pairs) in
     let typed : Typed c.args.house =
     let g = c.well_formed.0.1.1.1.1.1.1.1.1.1 in record { stations = search rules; serials = search rules } in
-    let gated : let b = c in first (gate (lent) (call)) ≡ 0 =
+    let gated : first (gate lent call) ≡ 0 =
     sym c.gate-found.ensures ∙ c.if-found-ne0.false in
-    let whole : Whole (lent) =
-    let b = c in past (lent) (call) (typed) (gated) in
+    let whole : Whole lent =
+    past lent call typed gated in
     whole
 
 pub refused-requires-then-k-ne0 : goal.refused-requires-then-k-ne0
@@ -50,11 +50,11 @@ refused-requires-then-k-ne0 c =
     let a = c.args in memory a.house a.board.now a.cells.now a.heard.now in
     let call : Call =
     foreign (post_of c.args.post c.args.pairs) in
-    let gated : first (gate (lent) (call)) ≡ 0 =
+    let gated : first (gate lent call) ≡ 0 =
     sym c.gate-found.ensures ∙ c.if-found-ne0.false in
-    let judged : reply (lent) (call) ≡ c.judge_foreign-k.result =
-    by_judge _ _ _ (gated) c.judge_foreign-k.ensures in
-    let parts = named _ _ _ (judged) c.if-k-ne0.true in record { le_k = parts.0; k_bound = parts.1 }
+    let judged : reply lent call ≡ c.judge_foreign-k.result =
+    by_judge _ _ _ gated c.judge_foreign-k.ensures in
+    let parts = named _ _ _ judged c.if-k-ne0.true in record { le_k = parts.0; k_bound = parts.1 }
 
 pub returns-then-k-ne0 : goal.returns-then-k-ne0
 returns-then-k-ne0 c =
@@ -62,11 +62,11 @@ returns-then-k-ne0 c =
     let a = c.args in memory a.house a.board.now a.cells.now a.heard.now in
     let call : Call =
     foreign (post_of c.args.post c.args.pairs) in
-    let gated : first (gate (lent) (call)) ≡ 0 =
+    let gated : first (gate lent call) ≡ 0 =
     sym c.gate-found.ensures ∙ c.if-found-ne0.false in
-    let judged : reply (lent) (call) ≡ c.judge_foreign-k.result =
-    by_judge _ _ _ (gated) c.judge_foreign-k.ensures in
-    refused _ _ _ (judged) c.if-k-ne0.true c.refused-then-k-ne0.ensures
+    let judged : reply lent call ≡ c.judge_foreign-k.result =
+    by_judge _ _ _ gated c.judge_foreign-k.ensures in
+    refused _ _ _ judged c.if-k-ne0.true c.refused-then-k-ne0.ensures
 
 pub act_foreign-h-requires : goal.act_foreign-h-requires
 act_foreign-h-requires c =
@@ -76,13 +76,13 @@ act_foreign-h-requires c =
     foreign (post_of c.args.post c.args.pairs) in
     let typed : Typed c.args.house =
     let g = c.well_formed.0.1.1.1.1.1.1.1.1.1 in record { stations = search rules; serials = search rules } in
-    let gated : let b = c in first (gate (lent) (call)) ≡ 0 =
+    let gated : first (gate lent call) ≡ 0 =
     sym c.gate-found.ensures ∙ c.if-found-ne0.false in
-    let whole : Whole (lent) =
-    let b = c in past (lent) (call) (typed) (gated) in
-    let judged : reply (lent) (call) ≡ c.judge_foreign-k.result =
-    by_judge _ _ _ (gated) c.judge_foreign-k.ensures in
-    let accepted : let b = c in reply (lent) (call) ≡ 0 =
+    let whole : Whole lent =
+    past lent call typed gated in
+    let judged : reply lent call ≡ c.judge_foreign-k.result =
+    by_judge _ _ _ gated c.judge_foreign-k.ensures in
+    let accepted : reply lent call ≡ 0 =
     judged ∙ c.if-k-ne0.false in
     record { whole = whole; pairs_value = accepted }
 
@@ -93,10 +93,10 @@ returns c =
     let a = c.args in memory a.house a.board.now a.cells.now a.heard.now in
     let call : Call =
     foreign (post_of c.args.post c.args.pairs) in
-    let gated : let b = c in first (gate (lent) (call)) ≡ 0 =
+    let gated : first (gate lent call) ≡ 0 =
     sym c.gate-found.ensures ∙ c.if-found-ne0.false in
-    let judged : reply (lent) (call) ≡ c.judge_foreign-k.result =
-    by_judge _ _ _ (gated) c.judge_foreign-k.ensures in
-    let accepted : let b = c in reply (lent) (call) ≡ 0 =
+    let judged : reply lent call ≡ c.judge_foreign-k.result =
+    by_judge _ _ _ gated c.judge_foreign-k.ensures in
+    let accepted : reply lent call ≡ 0 =
     judged ∙ c.if-k-ne0.false in
-    let d = c.before.before in done _ _ (accepted) refl d.act_foreign-h.ensures
+    done _ _ accepted refl c.act_foreign-h.ensures

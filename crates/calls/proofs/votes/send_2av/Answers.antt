@@ -18,9 +18,9 @@ refused-requires c =
     let a = c.args in memory a.house a.board.now a.cells.now a.heard.now in
     let call : Call =
     c2av c.args.row c.args.node c.args.ballot c.args.tube in
-    let stopped : reply (lent) (call) ≡ c.gate-found.result =
+    let stopped : reply lent call ≡ c.gate-found.result =
     at-gate _ _ _ c.gate-found.ensures c.if-found-ne0.true in
-    let parts = named _ _ _ (stopped) c.if-found-ne0.true in record { le_k = parts.0; k_bound = parts.1 }
+    let parts = named _ _ _ stopped c.if-found-ne0.true in record { le_k = parts.0; k_bound = parts.1 }
 
 pub returns-then-found-ne0 : goal.returns-then-found-ne0
 returns-then-found-ne0 c =
@@ -28,9 +28,9 @@ returns-then-found-ne0 c =
     let a = c.args in memory a.house a.board.now a.cells.now a.heard.now in
     let call : Call =
     c2av c.args.row c.args.node c.args.ballot c.args.tube in
-    let stopped : reply (lent) (call) ≡ c.gate-found.result =
+    let stopped : reply lent call ≡ c.gate-found.result =
     at-gate _ _ _ c.gate-found.ensures c.if-found-ne0.true in
-    refused _ _ _ (stopped) c.if-found-ne0.true c.refused.ensures
+    refused _ _ _ stopped c.if-found-ne0.true c.refused.ensures
 
 pub judge_2av-k-requires : goal.judge_2av-k-requires
 judge_2av-k-requires c =
@@ -40,10 +40,10 @@ judge_2av-k-requires c =
     c2av c.args.row c.args.node c.args.ballot c.args.tube in
     let typed : Typed c.args.house =
     let g = c.well_formed.0.1.1.1.1.1.1.1.1.1 in record { stations = search rules; serials = search rules } in
-    let gated : let b = c in first (gate (lent) (call)) ≡ 0 =
+    let gated : first (gate lent call) ≡ 0 =
     sym c.gate-found.ensures ∙ c.if-found-ne0.false in
-    let whole : Whole (lent) =
-    let b = c in past (lent) (call) (typed) (gated) in
+    let whole : Whole lent =
+    past lent call typed gated in
     whole
 
 pub refused-requires-then-k-ne0 : goal.refused-requires-then-k-ne0
@@ -52,11 +52,11 @@ refused-requires-then-k-ne0 c =
     let a = c.args in memory a.house a.board.now a.cells.now a.heard.now in
     let call : Call =
     c2av c.args.row c.args.node c.args.ballot c.args.tube in
-    let gated : first (gate (lent) (call)) ≡ 0 =
+    let gated : first (gate lent call) ≡ 0 =
     sym c.gate-found.ensures ∙ c.if-found-ne0.false in
-    let judged : reply (lent) (call) ≡ c.judge_2av-k.result =
-    by_judge _ _ _ (gated) c.judge_2av-k.ensures in
-    let parts = named _ _ _ (judged) c.if-k-ne0.true in record { le_k = parts.0; k_bound = parts.1 }
+    let judged : reply lent call ≡ c.judge_2av-k.result =
+    by_judge _ _ _ gated c.judge_2av-k.ensures in
+    let parts = named _ _ _ judged c.if-k-ne0.true in record { le_k = parts.0; k_bound = parts.1 }
 
 pub returns-then-k-ne0 : goal.returns-then-k-ne0
 returns-then-k-ne0 c =
@@ -64,11 +64,11 @@ returns-then-k-ne0 c =
     let a = c.args in memory a.house a.board.now a.cells.now a.heard.now in
     let call : Call =
     c2av c.args.row c.args.node c.args.ballot c.args.tube in
-    let gated : first (gate (lent) (call)) ≡ 0 =
+    let gated : first (gate lent call) ≡ 0 =
     sym c.gate-found.ensures ∙ c.if-found-ne0.false in
-    let judged : reply (lent) (call) ≡ c.judge_2av-k.result =
-    by_judge _ _ _ (gated) c.judge_2av-k.ensures in
-    refused _ _ _ (judged) c.if-k-ne0.true c.refused-then-k-ne0.ensures
+    let judged : reply lent call ≡ c.judge_2av-k.result =
+    by_judge _ _ _ gated c.judge_2av-k.ensures in
+    refused _ _ _ judged c.if-k-ne0.true c.refused-then-k-ne0.ensures
 
 pub overflow_cast-r : goal.overflow_cast-r
 unfolding fields
@@ -79,16 +79,15 @@ overflow_cast-r c =
     c2av c.args.row c.args.node c.args.ballot c.args.tube in
     let typed : Typed c.args.house =
     let g = c.well_formed.0.1.1.1.1.1.1.1.1.1 in record { stations = search rules; serials = search rules } in
-    let gated : let b = c in first (gate (lent) (call)) ≡ 0 =
+    let gated : first (gate lent call) ≡ 0 =
     sym c.gate-found.ensures ∙ c.if-found-ne0.false in
-    let judged : reply (lent) (call) ≡ c.judge_2av-k.result =
-    by_judge _ _ _ (gated) c.judge_2av-k.ensures in
-    let accepted : let b = c in reply (lent) (call) ≡ 0 =
+    let judged : reply lent call ≡ c.judge_2av-k.result =
+    by_judge _ _ _ gated c.judge_2av-k.ensures in
+    let accepted : reply lent call ≡ 0 =
     judged ∙ c.if-k-ne0.false in
     let small : let a = c.args in Small (room_of a.house) a.row a.node a.ballot a.tube =
-    let b = c in
-    let a = b.args in
-    let p = passed (lent) (call) (typed) (accepted) in
+    let a = c.args in
+    let p = passed lent call typed accepted in
     small_vote (room_of a.house) a.row a.node a.ballot a.tube p.fields in
     omega (arith, small)
 
@@ -101,16 +100,15 @@ overflow_cast-n c =
     c2av c.args.row c.args.node c.args.ballot c.args.tube in
     let typed : Typed c.args.house =
     let g = c.well_formed.0.1.1.1.1.1.1.1.1.1 in record { stations = search rules; serials = search rules } in
-    let gated : let b = c in first (gate (lent) (call)) ≡ 0 =
+    let gated : first (gate lent call) ≡ 0 =
     sym c.gate-found.ensures ∙ c.if-found-ne0.false in
-    let judged : reply (lent) (call) ≡ c.judge_2av-k.result =
-    by_judge _ _ _ (gated) c.judge_2av-k.ensures in
-    let accepted : let b = c in reply (lent) (call) ≡ 0 =
+    let judged : reply lent call ≡ c.judge_2av-k.result =
+    by_judge _ _ _ gated c.judge_2av-k.ensures in
+    let accepted : reply lent call ≡ 0 =
     judged ∙ c.if-k-ne0.false in
     let small : let a = c.args in Small (room_of a.house) a.row a.node a.ballot a.tube =
-    let b = c in
-    let a = b.args in
-    let p = passed (lent) (call) (typed) (accepted) in
+    let a = c.args in
+    let p = passed lent call typed accepted in
     small_vote (room_of a.house) a.row a.node a.ballot a.tube p.fields in
     omega (arith, small)
 
@@ -123,16 +121,15 @@ overflow_cast-b c =
     c2av c.args.row c.args.node c.args.ballot c.args.tube in
     let typed : Typed c.args.house =
     let g = c.well_formed.0.1.1.1.1.1.1.1.1.1 in record { stations = search rules; serials = search rules } in
-    let gated : let b = c in first (gate (lent) (call)) ≡ 0 =
+    let gated : first (gate lent call) ≡ 0 =
     sym c.gate-found.ensures ∙ c.if-found-ne0.false in
-    let judged : reply (lent) (call) ≡ c.judge_2av-k.result =
-    by_judge _ _ _ (gated) c.judge_2av-k.ensures in
-    let accepted : let b = c in reply (lent) (call) ≡ 0 =
+    let judged : reply lent call ≡ c.judge_2av-k.result =
+    by_judge _ _ _ gated c.judge_2av-k.ensures in
+    let accepted : reply lent call ≡ 0 =
     judged ∙ c.if-k-ne0.false in
     let small : let a = c.args in Small (room_of a.house) a.row a.node a.ballot a.tube =
-    let b = c in
-    let a = b.args in
-    let p = passed (lent) (call) (typed) (accepted) in
+    let a = c.args in
+    let p = passed lent call typed accepted in
     small_vote (room_of a.house) a.row a.node a.ballot a.tube p.fields in
     omega (arith, small)
 
@@ -145,16 +142,15 @@ overflow_cast-v c =
     c2av c.args.row c.args.node c.args.ballot c.args.tube in
     let typed : Typed c.args.house =
     let g = c.well_formed.0.1.1.1.1.1.1.1.1.1 in record { stations = search rules; serials = search rules } in
-    let gated : let b = c in first (gate (lent) (call)) ≡ 0 =
+    let gated : first (gate lent call) ≡ 0 =
     sym c.gate-found.ensures ∙ c.if-found-ne0.false in
-    let judged : reply (lent) (call) ≡ c.judge_2av-k.result =
-    by_judge _ _ _ (gated) c.judge_2av-k.ensures in
-    let accepted : let b = c in reply (lent) (call) ≡ 0 =
+    let judged : reply lent call ≡ c.judge_2av-k.result =
+    by_judge _ _ _ gated c.judge_2av-k.ensures in
+    let accepted : reply lent call ≡ 0 =
     judged ∙ c.if-k-ne0.false in
     let small : let a = c.args in Small (room_of a.house) a.row a.node a.ballot a.tube =
-    let b = c in
-    let a = b.args in
-    let p = passed (lent) (call) (typed) (accepted) in
+    let a = c.args in
+    let p = passed lent call typed accepted in
     small_vote (room_of a.house) a.row a.node a.ballot a.tube p.fields in
     omega (arith, small)
 
@@ -166,15 +162,15 @@ act_2av-h-requires c =
     c2av c.args.row c.args.node c.args.ballot c.args.tube in
     let typed : Typed c.args.house =
     let g = c.well_formed.0.1.1.1.1.1.1.1.1.1 in record { stations = search rules; serials = search rules } in
-    let gated : let b = c in first (gate (lent) (call)) ≡ 0 =
+    let gated : first (gate lent call) ≡ 0 =
     sym c.gate-found.ensures ∙ c.if-found-ne0.false in
-    let whole : Whole (lent) =
-    let b = c in past (lent) (call) (typed) (gated) in
-    let judged : reply (lent) (call) ≡ c.judge_2av-k.result =
-    by_judge _ _ _ (gated) c.judge_2av-k.ensures in
-    let accepted : let b = c in reply (lent) (call) ≡ 0 =
+    let whole : Whole lent =
+    past lent call typed gated in
+    let judged : reply lent call ≡ c.judge_2av-k.result =
+    by_judge _ _ _ gated c.judge_2av-k.ensures in
+    let accepted : reply lent call ≡ 0 =
     judged ∙ c.if-k-ne0.false in
-    let d = c.before.before in record { whole = whole; tube_value = accepted }
+    record { whole = whole; tube_value = accepted }
 
 pub returns : goal.returns
 unfolding tell
@@ -183,10 +179,10 @@ returns c =
     let a = c.args in memory a.house a.board.now a.cells.now a.heard.now in
     let call : Call =
     c2av c.args.row c.args.node c.args.ballot c.args.tube in
-    let gated : let b = c in first (gate (lent) (call)) ≡ 0 =
+    let gated : first (gate lent call) ≡ 0 =
     sym c.gate-found.ensures ∙ c.if-found-ne0.false in
-    let judged : reply (lent) (call) ≡ c.judge_2av-k.result =
-    by_judge _ _ _ (gated) c.judge_2av-k.ensures in
-    let accepted : let b = c in reply (lent) (call) ≡ 0 =
+    let judged : reply lent call ≡ c.judge_2av-k.result =
+    by_judge _ _ _ gated c.judge_2av-k.ensures in
+    let accepted : reply lent call ≡ 0 =
     judged ∙ c.if-k-ne0.false in
-    let d = c.before.before.before.before in done _ _ (accepted) refl d.act_2av-h.ensures
+    done _ _ accepted refl c.act_2av-h.ensures

@@ -1,11 +1,10 @@
 -- Bytes to the end: what is left to look at decides.
-use Prim.Native.Nat.{◌-◌}
 use mathlib.Core.Path.{◌≡◌, ap, sym, ◌∙◌}
 use native.Mathlib.Numerals.{add-one}
 use native.Mathlib.Omega.{arith}
 use borrow.Author.Rules.{rules}
 use borrow.Author.Tests.{lt-leb, le-leb}
-use lib.ListN.{length, get_or, drop, drop_of_length-le}
+use lib.ListN.{length, get_or, drop_of_length-le}
 use lib.Seq.{drop-cons}
 use Rattle.rules.specs.Tests.{all}
 use Rattle.foreign.specs.Bytes.{byte}

@@ -19,7 +19,7 @@ returns-then-not-height_in c =
     let placed : let a = c.args in ((row_in (room_of a.h) a.p.row && bal_in a.p.ballot) && ltb a.p.node a.h.nodes) ≡ true =
     sym c.promise_in.ensures ∙ c.if-not-promise_in.false in
     let a = c.args in
-    judged_1b (room_of a.h) a.p.row a.p.ballot a.p.node a.p.mbal a.p.mval a.p.count a.pairs true false _ (placed) (sym c.height_in.ensures ∙ c.if-not-height_in.true) refl
+    judged_1b (room_of a.h) a.p.row a.p.ballot a.p.node a.p.mbal a.p.mval a.p.count a.pairs true false _ placed (sym c.height_in.ensures ∙ c.if-not-height_in.true) refl
 
 pub returns-then-p-gt64 : goal.returns-then-p-gt64
 returns-then-p-gt64 c =
@@ -28,7 +28,7 @@ returns-then-p-gt64 c =
     let tall : let a = c.args in leb (height_of a.p.mbal) 16 ≡ true =
     sym c.height_in.ensures ∙ c.if-not-height_in.false in
     let a = c.args in
-    judged_1b (room_of a.h) a.p.row a.p.ballot a.p.node a.p.mbal a.p.mval a.p.count a.pairs true true false (placed) (tall) (lt-leb a.p.mval 64 (omega arith))
+    judged_1b (room_of a.h) a.p.row a.p.ballot a.p.node a.p.mbal a.p.mval a.p.count a.pairs true true false placed tall (lt-leb a.p.mval 64 (omega arith))
 
 pub returns : goal.returns
 returns c =
@@ -37,4 +37,4 @@ returns c =
     let tall : let a = c.args in leb (height_of a.p.mbal) 16 ≡ true =
     sym c.height_in.ensures ∙ c.if-not-height_in.false in
     let a = c.args in
-    c.pairs_in.ensures ∙ judged_1b (room_of a.h) a.p.row a.p.ballot a.p.node a.p.mbal a.p.mval a.p.count a.pairs true true true (placed) (tall) (le-leb a.p.mval 64 (omega arith))
+    c.pairs_in.ensures ∙ judged_1b (room_of a.h) a.p.row a.p.ballot a.p.node a.p.mbal a.p.mval a.p.count a.pairs true true true placed tall (le-leb a.p.mval 64 (omega arith))

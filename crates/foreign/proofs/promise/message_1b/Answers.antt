@@ -71,4 +71,4 @@ returns c =
     within (room_of a.h) a.p.row a.p.ballot a.p.node a.p.mbal a.p.mval a.p.count a.pairs len c.requires in
     let a = c.args in
     ap (carried a.p.row a.p.ballot a.p.node a.p.mbal a.p.mval a.p.count) c.narrowed-bytes.ensures
-    ∙ stored_1b (room_of a.h) a.p.row a.p.ballot a.p.node a.p.mbal a.p.mval a.p.count a.pairs (found)
+    ∙ stored_1b (room_of a.h) a.p.row a.p.ballot a.p.node a.p.mbal a.p.mval a.p.count a.pairs found

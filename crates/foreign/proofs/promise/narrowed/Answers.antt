@@ -1,5 +1,4 @@
 -- Narrowing thirty-two numbers: each turn copies one more.
-use Prim.Native.Nat.{◌-◌}
 use mathlib.Core.Path.{◌≡◌, sym, ◌∙◌}
 use native.Mathlib.Omega.{arith}
 use borrow.Author.Rules.{rules}

@@ -1,9 +1,9 @@
 -- Reading the arguments: each turn takes four bytes more.
-use Prim.Native.Nat.{◌-◌, ◌*◌}
+use Prim.Native.Nat.{◌*◌}
 use mathlib.Core.Path.{◌≡◌, sym, ◌∙◌}
 use native.Mathlib.Numerals.{add-one}
 use native.Mathlib.Omega.{arith}
-use lib.ListN.{length, drop, length-set}
+use lib.ListN.{drop, length-set}
 use lib.Seq.{take_all}
 use Rattle.image.specs.Image.{four_at}
 use Rattle.image.proofs.Writing.{one_more, four-drop}

@@ -1,8 +1,7 @@
 -- Reading the pairs: each turn copies one byte more.
-use Prim.Native.Nat.{◌-◌}
 use mathlib.Core.Path.{◌≡◌, sym, ◌∙◌}
 use native.Mathlib.Omega.{arith}
-use lib.ListN.{length, length-set}
+use lib.ListN.{length-set}
 use lib.Seq.{take_all}
 use Rattle.rules.proofs.Area.{copy_more}
 use Rattle.frame.proofs.reading.pairs.Goals as goal

@@ -7,7 +7,5 @@ use Rattle.image.proofs.numbers.write_u16.Goals as goal
 
 pub returns : goal.returns
 returns c =
-    let w = c.before.before in
-    let v = w.before.before.before.before in
-    let a = v.args in
-    then a.out.now (a.x % 256 ∷ []) (a.x / 256 ∷ []) a.at (a.at + 1) v.write_u8.ensures w.write_u8-2.ensures (omega arith) (omega arith)
+    let a = c.args in
+    then a.out.now (a.x % 256 ∷ []) (a.x / 256 ∷ []) a.at (a.at + 1) c.write_u8.ensures c.write_u8-2.ensures (omega arith) (omega arith)

@@ -7,13 +7,9 @@ use Rattle.image.proofs.numbers.write_u32.Goals as goal
 
 pub returns : goal.returns
 returns c =
-    let w4 = c.before.before in
-    let w3 = w4.before.before.before.before in
-    let w2 = w3.before.before.before.before in
-    let w1 = w2.before.before.before.before in
-    let a = w1.args in
+    let a = c.args in
     let s = a.out.now in
     let x = a.x in
-    let two = then s (x % 256 ∷ []) (x / 256 % 256 ∷ []) a.at (a.at + 1) w1.write_u8.ensures w2.write_u8-2.ensures (omega arith) (omega arith) in
-    let three = then s (x % 256 ∷ x / 256 % 256 ∷ []) (x / 65536 % 256 ∷ []) a.at (a.at + 2) two w3.write_u8-3.ensures (omega arith) (omega arith) in
-    then s (x % 256 ∷ x / 256 % 256 ∷ x / 65536 % 256 ∷ []) (x / 16777216 ∷ []) a.at (a.at + 3) three w4.write_u8-4.ensures (omega arith) (omega arith)
+    let two = then s (x % 256 ∷ []) (x / 256 % 256 ∷ []) a.at (a.at + 1) c.write_u8.ensures c.write_u8-2.ensures (omega arith) (omega arith) in
+    let three = then s (x % 256 ∷ x / 256 % 256 ∷ []) (x / 65536 % 256 ∷ []) a.at (a.at + 2) two c.write_u8-3.ensures (omega arith) (omega arith) in
+    then s (x % 256 ∷ x / 256 % 256 ∷ x / 65536 % 256 ∷ []) (x / 16777216 ∷ []) a.at (a.at + 3) three c.write_u8-4.ensures (omega arith) (omega arith)

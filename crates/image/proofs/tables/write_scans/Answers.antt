@@ -15,12 +15,11 @@ loop-i-init c = (omega arith, (refl, none_yet c.args.out.now 136))
 
 pub loop-i-preserved : goal.loop-i-preserved
 loop-i-preserved c =
-    let w = c.before.before in
-    let l = w.loop-i in
-    let a = w.args in
+    let l = c.loop-i in
+    let a = c.args in
     let n = length-scans a.stations a.serials l.i in
     let i = l.i in
-    (omega arith, (search rules, then a.out.now (scans a.stations a.serials i) (get_or a.stations i 0 ∷ four (get_or a.serials i 0)) 136 (136 + 5 * i) l.invariant.1.1 w.write_scan.ensures (omega arith) (omega arith) ∙ rw (add-one i)))
+    (omega arith, (search rules, then a.out.now (scans a.stations a.serials i) (get_or a.stations i 0 ∷ four (get_or a.serials i 0)) 136 (136 + 5 * i) l.invariant.1.1 c.write_scan.ensures (omega arith) (omega arith) ∙ rw (add-one i)))
 
 pub returns : goal.returns
 returns c =

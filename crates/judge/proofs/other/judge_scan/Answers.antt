@@ -15,19 +15,19 @@ pub returns-then-not-scan_in : goal.returns-then-not-scan_in
 returns-then-not-scan_in c =
     let lent : Memory =
     let a = c.args in memory a.h a.board.now a.cells.now a.heard.now in
-    says_scan (lent) c.args.station c.args.serial false _ (bounds (lent) c.requires).tubes (sym c.scan_in.ensures ∙ c.if-not-scan_in.true) refl
+    says_scan lent c.args.station c.args.serial false _ (bounds lent c.requires).tubes (sym c.scan_in.ensures ∙ c.if-not-scan_in.true) refl
 
 pub overflow_cast-station : goal.overflow_cast-station
 overflow_cast-station c =
     let inside : let a = c.args in scan_in a.station a.serial ≡ true =
     sym c.scan_in.ensures ∙ c.if-not-scan_in.false in
-    omega (arith, scan_says c.args.station c.args.serial (inside))
+    omega (arith, scan_says c.args.station c.args.serial inside)
 
 pub tube_of-t-requires : goal.tube_of-t-requires
 tube_of-t-requires c =
     let lent : Memory =
     let a = c.args in memory a.h a.board.now a.cells.now a.heard.now in
-    (bounds (lent) c.requires).tubes
+    (bounds lent c.requires).tubes
 
 pub returns-then-t : goal.returns-then-t
 returns-then-t c =
@@ -35,7 +35,7 @@ returns-then-t c =
     let a = c.args in memory a.h a.board.now a.cells.now a.heard.now in
     let inside : let a = c.args in scan_in a.station a.serial ≡ true =
     sym c.scan_in.ensures ∙ c.if-not-scan_in.false in
-    says_scan (lent) c.args.station c.args.serial true false (bounds (lent) c.requires).tubes (inside)
+    says_scan lent c.args.station c.args.serial true false (bounds lent c.requires).tubes inside
     (ap (λ (t : ℕ). leb t 64) (sym c.tube_of-t.ensures) ∙ lt-leb _ 64 c.if-t.true)
 
 pub returns : goal.returns
@@ -44,5 +44,5 @@ returns c =
     let a = c.args in memory a.h a.board.now a.cells.now a.heard.now in
     let inside : let a = c.args in scan_in a.station a.serial ≡ true =
     sym c.scan_in.ensures ∙ c.if-not-scan_in.false in
-    says_scan (lent) c.args.station c.args.serial true true (bounds (lent) c.requires).tubes (inside)
+    says_scan lent c.args.station c.args.serial true true (bounds lent c.requires).tubes inside
     (ap (λ (t : ℕ). leb t 64) (sym c.tube_of-t.ensures) ∙ le-leb _ 64 c.if-t.false)

@@ -15,7 +15,7 @@ pub returns-then-not-offer_in : goal.returns-then-not-offer_in
 returns-then-not-offer_in c =
     let lent : Memory =
     let a = c.args in memory a.h a.board.now a.cells.now a.heard.now in
-    says_1c (lent) c.args.row c.args.ballot c.args.tube false _ _ (sym c.offer_in.ensures ∙ c.if-not-offer_in.true) refl refl
+    says_1c lent c.args.row c.args.ballot c.args.tube false _ _ (sym c.offer_in.ensures ∙ c.if-not-offer_in.true) refl refl
 
 pub returns-then-not-on_intake : goal.returns-then-not-on_intake
 returns-then-not-on_intake c =
@@ -23,32 +23,32 @@ returns-then-not-on_intake c =
     let a = c.args in memory a.h a.board.now a.cells.now a.heard.now in
     let inside : let a = c.args in limits (room_of a.h) (m1c a.row a.ballot a.tube) ≡ true =
     sym c.offer_in.ensures ∙ c.if-not-offer_in.false in
-    says_1c (lent) c.args.row c.args.ballot c.args.tube true false _ (inside) (sym c.on_intake.ensures ∙ c.if-not-on_intake.true) refl
+    says_1c lent c.args.row c.args.ballot c.args.tube true false _ inside (sym c.on_intake.ensures ∙ c.if-not-on_intake.true) refl
 
 pub overflow_cast-row : goal.overflow_cast-row
 overflow_cast-row c =
     let inside : let a = c.args in limits (room_of a.h) (m1c a.row a.ballot a.tube) ≡ true =
     sym c.offer_in.ensures ∙ c.if-not-offer_in.false in
-    omega (arith, offer_says _ _ _ _ (inside))
+    omega (arith, offer_says _ _ _ _ inside)
 
 pub overflow_cast-ballot : goal.overflow_cast-ballot
 overflow_cast-ballot c =
     let inside : let a = c.args in limits (room_of a.h) (m1c a.row a.ballot a.tube) ≡ true =
     sym c.offer_in.ensures ∙ c.if-not-offer_in.false in
-    omega (arith, offer_says _ _ _ _ (inside))
+    omega (arith, offer_says _ _ _ _ inside)
 
 pub overflow_cast-tube : goal.overflow_cast-tube
 overflow_cast-tube c =
     let inside : let a = c.args in limits (room_of a.h) (m1c a.row a.ballot a.tube) ≡ true =
     sym c.offer_in.ensures ∙ c.if-not-offer_in.false in
-    omega (arith, offer_says _ _ _ _ (inside))
+    omega (arith, offer_says _ _ _ _ inside)
 
 pub fits-requires : goal.fits-requires
 unfolding stored
 fits-requires c =
     let lent : Memory =
     let a = c.args in memory a.h a.board.now a.cells.now a.heard.now in
-    record { plain = plain (lent) c.requires; own = own-stored (m1c c.args.row c.args.ballot c.args.tube) _ tt c.bare-m.ensures }
+    record { plain = plain lent c.requires; own = own-stored (m1c c.args.row c.args.ballot c.args.tube) _ tt c.bare-m.ensures }
 
 pub returns-then-not-fits : goal.returns-then-not-fits
 unfolding stored
@@ -59,12 +59,9 @@ returns-then-not-fits c =
     sym c.offer_in.ensures ∙ c.if-not-offer_in.false in
     let known : let a = c.args in leb a.tube a.h.tubes ≡ true =
     sym c.on_intake.ensures ∙ c.if-not-on_intake.false in
-    let room : let b = c in c.fits.result ≡ fits (room_of b.args.h) (read (lent)) (m1c b.args.row b.args.ballot b.args.tube) =
-    let b = c in
-    fits_means (lent) (m1c b.args.row b.args.ballot b.args.tube) _ tt c.bare-m.ensures c.fits.ensures in
-    let e = c.before.before.before in
-    let b = c in
-    says_1c (lent) b.args.row b.args.ballot b.args.tube true true false (inside) (known) (sym (room) ∙ c.if-not-fits.true)
+    let room : c.fits.result ≡ fits (room_of c.args.h) (read lent) (m1c c.args.row c.args.ballot c.args.tube) =
+    fits_means lent (m1c c.args.row c.args.ballot c.args.tube) _ tt c.bare-m.ensures c.fits.ensures in
+    says_1c lent c.args.row c.args.ballot c.args.tube true true false inside known (sym room ∙ c.if-not-fits.true)
 
 pub returns : goal.returns
 unfolding stored
@@ -75,9 +72,6 @@ returns c =
     sym c.offer_in.ensures ∙ c.if-not-offer_in.false in
     let known : let a = c.args in leb a.tube a.h.tubes ≡ true =
     sym c.on_intake.ensures ∙ c.if-not-on_intake.false in
-    let room : let b = c in c.fits.result ≡ fits (room_of b.args.h) (read (lent)) (m1c b.args.row b.args.ballot b.args.tube) =
-    let b = c in
-    fits_means (lent) (m1c b.args.row b.args.ballot b.args.tube) _ tt c.bare-m.ensures c.fits.ensures in
-    let e = c.before.before.before in
-    let b = c in
-    says_1c (lent) b.args.row b.args.ballot b.args.tube true true true (inside) (known) (sym (room) ∙ c.if-not-fits.false)
+    let room : c.fits.result ≡ fits (room_of c.args.h) (read lent) (m1c c.args.row c.args.ballot c.args.tube) =
+    fits_means lent (m1c c.args.row c.args.ballot c.args.tube) _ tt c.bare-m.ensures c.fits.ensures in
+    says_1c lent c.args.row c.args.ballot c.args.tube true true true inside known (sym room ∙ c.if-not-fits.false)

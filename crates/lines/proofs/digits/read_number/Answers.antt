@@ -20,21 +20,21 @@ pub overflow_sub-value : goal.overflow_sub-value
 overflow_sub-value c =
     let first_digit : is_digit (get_or c.args.s.now c.args.at 0) ≡ true =
     sym c.is_digit.ensures ∙ c.if-not-is_digit.false in
-    digit_low _ (first_digit)
+    digit_low _ first_digit
 
 pub overflow_cast-value : goal.overflow_cast-value
 overflow_cast-value c =
     let first_digit : is_digit (get_or c.args.s.now c.args.at 0) ≡ true =
     sym c.is_digit.ensures ∙ c.if-not-is_digit.false in
     let a = c.args in
-    omega (arith, digit_high (get_or a.s.now a.at 0) (first_digit))
+    omega (arith, digit_high (get_or a.s.now a.at 0) first_digit)
 
 pub loop-end-init : goal.loop-end-init
 loop-end-init c =
     let first_digit : is_digit (get_or c.args.s.now c.args.at 0) ≡ true =
     sym c.is_digit.ensures ∙ c.if-not-is_digit.false in
     let a = c.args in
-    (number_on a.s.now a.at (search rules) (first_digit), omega (arith, digit_high (get_or a.s.now a.at 0) (first_digit)))
+    (number_on a.s.now a.at (search rules) first_digit, omega (arith, digit_high (get_or a.s.now a.at 0) first_digit))
 
 pub returns-then-not-is_digit-2 : goal.returns-then-not-is_digit-2
 returns-then-not-is_digit-2 c =
@@ -55,25 +55,25 @@ returns-then-not-may_follow c =
     let l = c.loop-end in
     let a = c.args in
     sym (l.invariant.0
-    ∙ onward_bad a.s.now l.end l.value (search rules) (next_digit) (sym c.may_follow.ensures ∙ c.if-not-may_follow.true))
+    ∙ onward_bad a.s.now l.end l.value (search rules) next_digit (sym c.may_follow.ensures ∙ c.if-not-may_follow.true))
 
 pub overflow_sub-value-in-loop-end : goal.overflow_sub-value-in-loop-end
 overflow_sub-value-in-loop-end c =
     let next_digit : is_digit (get_or c.args.s.now c.loop-end.end 0) ≡ true =
     sym c.is_digit-in-loop-end.ensures ∙ c.if-not-is_digit-2.false in
-    digit_low _ (next_digit)
+    digit_low _ next_digit
 
 pub overflow_cast-value-in-loop-end : goal.overflow_cast-value-in-loop-end
 overflow_cast-value-in-loop-end c =
     let next_digit : is_digit (get_or c.args.s.now c.loop-end.end 0) ≡ true =
     sym c.is_digit-in-loop-end.ensures ∙ c.if-not-is_digit-2.false in
-    omega (arith, digit_high (get_or c.args.s.now c.loop-end.end 0) (next_digit))
+    omega (arith, digit_high (get_or c.args.s.now c.loop-end.end 0) next_digit)
 
 pub overflow_add-value : goal.overflow_add-value
 overflow_add-value c =
     let next_digit : is_digit (get_or c.args.s.now c.loop-end.end 0) ≡ true =
     sym c.is_digit-in-loop-end.ensures ∙ c.if-not-is_digit-2.false in
-    omega (arith, digit_high (get_or c.args.s.now c.loop-end.end 0) (next_digit))
+    omega (arith, digit_high (get_or c.args.s.now c.loop-end.end 0) next_digit)
 
 pub loop-end-preserved : goal.loop-end-preserved
 loop-end-preserved c =
@@ -82,7 +82,7 @@ loop-end-preserved c =
     let l = c.loop-end in
     let a = c.args in
     let f : follows l.value (get_or a.s.now l.end 0) ≡ true = sym c.may_follow.ensures ∙ c.if-not-may_follow.false in
-    (l.invariant.0 ∙ onward_on a.s.now l.end l.value (search rules) (next_digit) f, follows-most l.value (get_or a.s.now l.end 0) f)
+    (l.invariant.0 ∙ onward_on a.s.now l.end l.value (search rules) next_digit f, follows-most l.value (get_or a.s.now l.end 0) f)
 
 pub returns : goal.returns
 returns c =

@@ -1,10 +1,9 @@
 -- The book's rows: all rows passed are agreed, and their tubes stand in order.
-use Prim.Native.Nat.{◌-◌}
 use mathlib.Core.Path.{◌≡◌, refl, ap, sym, ◌∙◌}
 use mathlib.Core.Bool.{false}
 use native.Mathlib.Omega.{arith}
 use borrow.Author.Rules.{rules}
-use lib.ListN.{length, length-set}
+use lib.ListN.{length-set}
 use Rattle.rules.specs.Book.{is_agreed}
 use Rattle.rules.specs.declared.Tube.{Tube}
 use Rattle.tell.specs.declared.RowTube.{RowTube}

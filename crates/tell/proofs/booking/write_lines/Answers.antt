@@ -1,10 +1,10 @@
 -- The lines: those of the rows passed are written.
-use Prim.Native.Nat.{ℕ, ◌-◌}
+use Prim.Native.Nat.{ℕ}
 use mathlib.Core.Path.{◌≡◌, refl, ap, ◌∙◌}
 use mathlib.Core.List.{List}
 use native.Mathlib.Omega.{arith}
 use borrow.Author.Rules.{rules}
-use lib.ListN.{length, set, length-set}
+use lib.ListN.{set, length-set}
 use Rattle.tell.specs.Lines.{line_of, lines}
 use Rattle.tell.proofs.Lines.{lines_next}
 use Rattle.tell.proofs.booking.write_lines.Goals as goal

@@ -1,5 +1,4 @@
 -- The waiting tubes: those of the tubes passed are written and counted.
-use Prim.Native.Nat.{◌-◌}
 use mathlib.Core.Path.{◌≡◌, refl}
 use native.Mathlib.Omega.{arith}
 use borrow.Author.Rules.{rules}

@@ -1,5 +1,5 @@
 -- Set by set: the sum so far is 0 exactly when none of those added has a node.
-use Prim.Native.Nat.{◌+◌, ◌-◌}
+use Prim.Native.Nat.{◌+◌}
 use mathlib.Core.Path.{◌≡◌}
 use native.Mathlib.Omega.{arith}
 use lib.ListN.{get_or}

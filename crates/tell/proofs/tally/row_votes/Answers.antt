@@ -1,5 +1,4 @@
 -- The votes of a row: those of the messages passed are counted.
-use Prim.Native.Nat.{◌-◌}
 use mathlib.Core.Path.{◌≡◌, refl, ap, ◌∙◌}
 use lib.ListN.{length}
 use native.Mathlib.Omega.{arith}

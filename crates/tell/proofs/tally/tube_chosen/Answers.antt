@@ -1,7 +1,5 @@
 -- A tube is chosen in some ballot: one without votes in none, and none of the ballots passed fills a quorum.
-use Prim.Native.Nat.{◌-◌}
 use mathlib.Core.Path.{◌≡◌, refl, sym, ◌∙◌}
-use mathlib.Core.Bool.{false}
 use native.Mathlib.Omega.{arith}
 use lib.ListN.{get_or, take}
 use Rattle.rules.proofs.Scan.{below_more, below_here}

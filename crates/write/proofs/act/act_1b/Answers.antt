@@ -17,24 +17,24 @@ pub place-k-requires : goal.place-k-requires
 place-k-requires c =
     let lent : Memory =
     let a = c.args in memory a.h a.board.now a.cells.now a.heard.now in
-    let past : let a = c.args in Passed (lent) (c1b a.row.0 a.node.0 a.ballot.0) =
-    let a = c.args in passed (lent) (c1b a.row.0 a.node.0 a.ballot.0) c.requires.whole.typed c.requires.ballot_value in
+    let past : let a = c.args in Passed lent (c1b a.row.0 a.node.0 a.ballot.0) =
+    let a = c.args in passed lent (c1b a.row.0 a.node.0 a.ballot.0) c.requires.whole.typed c.requires.ballot_value in
     let at : let a = c.args in At (room_of a.h) a.row.0 a.node.0 =
-    let a = c.args in (ready (lent) (c1b a.row.0 a.node.0 a.ballot.0) (past)).1.0 in
+    let a = c.args in (ready lent (c1b a.row.0 a.node.0 a.ballot.0) past).1.0 in
     (at).low
 
 pub cell_at-c-requires : goal.cell_at-c-requires
 cell_at-c-requires c =
     let lent : Memory =
     let a = c.args in memory a.h a.board.now a.cells.now a.heard.now in
-    let past : let a = c.args in Passed (lent) (c1b a.row.0 a.node.0 a.ballot.0) =
-    let a = c.args in passed (lent) (c1b a.row.0 a.node.0 a.ballot.0) c.requires.whole.typed c.requires.ballot_value in
+    let past : let a = c.args in Passed lent (c1b a.row.0 a.node.0 a.ballot.0) =
+    let a = c.args in passed lent (c1b a.row.0 a.node.0 a.ballot.0) c.requires.whole.typed c.requires.ballot_value in
     let at : let a = c.args in At (room_of a.h) a.row.0 a.node.0 =
-    let a = c.args in (ready (lent) (c1b a.row.0 a.node.0 a.ballot.0) (past)).1.0 in
+    let a = c.args in (ready lent (c1b a.row.0 a.node.0 a.ballot.0) past).1.0 in
     let lies : (c.place-k.result < 512) × (36 * c.place-k.result + 36 ≤ length c.args.cells.now) =
     let a = c.args in (
-      omega (arith, place-below (lent) a.row.0 a.node.0 (at) (bounds (lent) c.requires.whole), c.place-k.ensures),
-      omega (arith, cell-long (lent) a.row.0 a.node.0 (at) (past).size, c.place-k.ensures),
+      omega (arith, place-below lent a.row.0 a.node.0 at (bounds lent c.requires.whole), c.place-k.ensures),
+      omega (arith, cell-long lent a.row.0 a.node.0 at (past).size, c.place-k.ensures),
     ) in
     let parts = lies in record { k_bound = parts.0; k_in_bounds = parts.1 }
 
@@ -42,35 +42,32 @@ pub post-out-requires : goal.post-out-requires
 post-out-requires c =
     let lent : Memory =
     let a = c.args in memory a.h a.board.now a.cells.now a.heard.now in
-    let past : let a = c.args in Passed (lent) (c1b a.row.0 a.node.0 a.ballot.0) =
-    let a = c.args in passed (lent) (c1b a.row.0 a.node.0 a.ballot.0) c.requires.whole.typed c.requires.ballot_value in
+    let past : let a = c.args in Passed lent (c1b a.row.0 a.node.0 a.ballot.0) =
+    let a = c.args in passed lent (c1b a.row.0 a.node.0 a.ballot.0) c.requires.whole.typed c.requires.ballot_value in
     let at : let a = c.args in At (room_of a.h) a.row.0 a.node.0 =
-    let a = c.args in (ready (lent) (c1b a.row.0 a.node.0 a.ballot.0) (past)).1.0 in
+    let a = c.args in (ready lent (c1b a.row.0 a.node.0 a.ballot.0) past).1.0 in
     let found : let a = c.args in c.cell_at-c.result ≡ cell_at a.cells.now (place a.h.rows a.row.0 a.node.0) =
     let a = c.args in c.cell_at-c.ensures ∙ ap (cell_at a.cells.now) c.place-k.ensures in
-    let message : let b = c in c.promise-m.result ≡ stored (told (read (lent)) b.args.row.0 b.args.node.0 b.args.ballot.0) =
-    let b = c in
-    let a = b.args in
-    c.promise-m.ensures ∙ ap (promised a.row.0 a.ballot.0 a.node.0) (found)
-    ∙ told_as (lent) (past).form a.row.0 a.node.0 (at) a.ballot.0 in
-    let d = c.before in
-    let b = c in
-    let a = b.args in
-    let s = (ready (lent) (c1b a.row.0 a.node.0 a.ballot.0) (past)).0 in
-    postable (lent) (told (read (lent)) a.row.0 a.node.0 a.ballot.0) _ (message) (past).size (past).form s
+    let message : c.promise-m.result ≡ stored (told (read lent) c.args.row.0 c.args.node.0 c.args.ballot.0) =
+    let a = c.args in
+    c.promise-m.ensures ∙ ap (promised a.row.0 a.ballot.0 a.node.0) found
+    ∙ told_as lent (past).form a.row.0 a.node.0 at a.ballot.0 in
+    let a = c.args in
+    let s = (ready lent (c1b a.row.0 a.node.0 a.ballot.0) past).0 in
+    postable lent (told (read lent) a.row.0 a.node.0 a.ballot.0) _ message (past).size (past).form s
 
 pub set_cell-requires : goal.set_cell-requires
 set_cell-requires c =
     let lent : Memory =
     let a = c.args in memory a.h a.board.now a.cells.now a.heard.now in
-    let past : let a = c.args in Passed (lent) (c1b a.row.0 a.node.0 a.ballot.0) =
-    let a = c.args in passed (lent) (c1b a.row.0 a.node.0 a.ballot.0) c.requires.whole.typed c.requires.ballot_value in
+    let past : let a = c.args in Passed lent (c1b a.row.0 a.node.0 a.ballot.0) =
+    let a = c.args in passed lent (c1b a.row.0 a.node.0 a.ballot.0) c.requires.whole.typed c.requires.ballot_value in
     let at : let a = c.args in At (room_of a.h) a.row.0 a.node.0 =
-    let a = c.args in (ready (lent) (c1b a.row.0 a.node.0 a.ballot.0) (past)).1.0 in
+    let a = c.args in (ready lent (c1b a.row.0 a.node.0 a.ballot.0) past).1.0 in
     let lies : (c.place-k.result < 512) × (36 * c.place-k.result + 36 ≤ length c.args.cells.now) =
     let a = c.args in (
-      omega (arith, place-below (lent) a.row.0 a.node.0 (at) (bounds (lent) c.requires.whole), c.place-k.ensures),
-      omega (arith, cell-long (lent) a.row.0 a.node.0 (at) (past).size, c.place-k.ensures),
+      omega (arith, place-below lent a.row.0 a.node.0 at (bounds lent c.requires.whole), c.place-k.ensures),
+      omega (arith, cell-long lent a.row.0 a.node.0 at (past).size, c.place-k.ensures),
     ) in
     let parts = lies in record { k_bound = parts.0; k_in_bounds = parts.1 }
 
@@ -79,32 +76,27 @@ unfolding write
 returns c =
     let lent : Memory =
     let a = c.args in memory a.h a.board.now a.cells.now a.heard.now in
-    let past : let a = c.args in Passed (lent) (c1b a.row.0 a.node.0 a.ballot.0) =
-    let a = c.args in passed (lent) (c1b a.row.0 a.node.0 a.ballot.0) c.requires.whole.typed c.requires.ballot_value in
+    let past : let a = c.args in Passed lent (c1b a.row.0 a.node.0 a.ballot.0) =
+    let a = c.args in passed lent (c1b a.row.0 a.node.0 a.ballot.0) c.requires.whole.typed c.requires.ballot_value in
     let at : let a = c.args in At (room_of a.h) a.row.0 a.node.0 =
-    let a = c.args in (ready (lent) (c1b a.row.0 a.node.0 a.ballot.0) (past)).1.0 in
+    let a = c.args in (ready lent (c1b a.row.0 a.node.0 a.ballot.0) past).1.0 in
     let found : let a = c.args in c.cell_at-c.result ≡ cell_at a.cells.now (place a.h.rows a.row.0 a.node.0) =
     let a = c.args in c.cell_at-c.ensures ∙ ap (cell_at a.cells.now) c.place-k.ensures in
-    let message : let b = c in c.promise-m.result ≡ stored (told (read (lent)) b.args.row.0 b.args.node.0 b.args.ballot.0) =
-    let b = c in
-    let a = b.args in
-    c.promise-m.ensures ∙ ap (promised a.row.0 a.ballot.0 a.node.0) (found)
-    ∙ told_as (lent) (past).form a.row.0 a.node.0 (at) a.ballot.0 in
-    let d = c.before.before in
-    let q = d.before.before.before.before in
-    let f = q.before.before in
-    let k = f.cell_at-c.result in
-    let b = c in
-    let a = b.args in
+    let message : c.promise-m.result ≡ stored (told (read lent) c.args.row.0 c.args.node.0 c.args.ballot.0) =
+    let a = c.args in
+    c.promise-m.ensures ∙ ap (promised a.row.0 a.ballot.0 a.node.0) found
+    ∙ told_as lent (past).form a.row.0 a.node.0 at a.ballot.0 in
+    let k = c.cell_at-c.result in
+    let a = c.args in
     let r = a.row.0 in
     let n = a.node.0 in
-    let o = (read (lent)).cells r n in
-    let x = told (read (lent)) r n a.ballot.0 in
-    let small = (ready (lent) (c1b r n a.ballot.0) (past)).0.small in
-    cell-after (lent) x r n (record { max_bal = suc a.ballot.0; max_vbal = o.max_vbal; max_vval = o.max_vval; pairs = o.pairs })
+    let o = (read lent).cells r n in
+    let x = told (read lent) r n a.ballot.0 in
+    let small = (ready lent (c1b r n a.ballot.0) past).0.small in
+    cell-after lent x r n (record { max_bal = suc a.ballot.0; max_vbal = o.max_vbal; max_vval = o.max_vval; pairs = o.pairs })
     (record { maxbal = a.ballot.0; maxvbal = k.maxvbal; maxvval = k.maxvval; count = k.count; pairs = k.pairs }) _
-    (posted (lent) x _ (message) small q.post-out.ensures)
-    (raised_as (lent) (past).form r n a.ballot.0 (at) k (found))
-    f.place-k.ensures
-    d.set_cell.ensures
-    ∙ sym (done (lent) (c1b r n a.ballot.0) b.requires.ballot_value)
+    (posted lent x _ message small c.post-out.ensures)
+    (raised_as lent (past).form r n a.ballot.0 at k found)
+    c.place-k.ensures
+    c.set_cell.ensures
+    ∙ sym (done lent (c1b r n a.ballot.0) c.requires.ballot_value)

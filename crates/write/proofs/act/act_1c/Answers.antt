@@ -15,8 +15,8 @@ post-requires c =
     let r = c.args.row.0 in
     let k = c.args.ballot.0 in
     let v = c.args.tube.0 in
-    let p = passed (lent) (c1c r k v) c.requires.whole.typed c.requires.tube_value in
-    postable (lent) (m1c r k v) _ c.bare-m.ensures p.size p.form (ready (lent) (c1c r k v) p)
+    let p = passed lent (c1c r k v) c.requires.whole.typed c.requires.tube_value in
+    postable lent (m1c r k v) _ c.bare-m.ensures p.size p.form (ready lent (c1c r k v) p)
 
 pub returns : goal.returns
 unfolding stored
@@ -26,4 +26,4 @@ returns c =
     let r = c.args.row.0 in
     let k = c.args.ballot.0 in
     let v = c.args.tube.0 in
-    posted (lent) (m1c r k v) _ c.bare-m.ensures tt c.post.ensures ∙ sent (lent) (c1c r k v) (m1c r k v) refl c.requires.tube_value
+    posted lent (m1c r k v) _ c.bare-m.ensures tt c.post.ensures ∙ sent lent (c1c r k v) (m1c r k v) refl c.requires.tube_value

@@ -12,7 +12,7 @@ pub tube_of-t-requires : goal.tube_of-t-requires
 tube_of-t-requires c =
     let lent : Memory =
     let a = c.args in memory a.h a.board.now a.cells.now a.heard.now in
-    (bounds (lent) c.requires.whole).tubes
+    (bounds lent c.requires.whole).tubes
 
 pub returns-then-t-h : goal.returns-then-t-h
 returns-then-t-h c =
@@ -20,7 +20,7 @@ returns-then-t-h c =
     let a = c.args in memory a.h a.board.now a.cells.now a.heard.now in
     let x = c.args.station in
     let y = c.args.serial in
-    old_after (lent) x y c.requires.serial_value (scan_old (lent) x y c.tube_of-t.result c.tube_of-t.ensures c.if-t-h.true)
+    old_after lent x y c.requires.serial_value (scan_old lent x y c.tube_of-t.result c.tube_of-t.ensures c.if-t-h.true)
 
 pub with_scan-requires : goal.with_scan-requires
 with_scan-requires c =
@@ -28,7 +28,7 @@ with_scan-requires c =
     let a = c.args in memory a.h a.board.now a.cells.now a.heard.now in
     let x = c.args.station in
     let y = c.args.serial in
-    ready (lent) (scan x y) (passed (lent) (scan x y) c.requires.whole.typed c.requires.serial_value) (scan_new (lent) x y c.tube_of-t.result c.tube_of-t.ensures c.if-t-h.false)
+    ready lent (scan x y) (passed lent (scan x y) c.requires.whole.typed c.requires.serial_value) (scan_new lent x y c.tube_of-t.result c.tube_of-t.ensures c.if-t-h.false)
 
 pub returns : goal.returns
 returns c =
@@ -38,4 +38,4 @@ returns c =
     let x = a.station in
     let y = a.serial in
     ap (λ (h : House). memory h a.board.now a.cells.now a.heard.now) c.with_scan.ensures
-    ∙ new_after (lent) x y c.requires.serial_value (scan_new (lent) x y c.tube_of-t.result c.tube_of-t.ensures c.if-t-h.false)
+    ∙ new_after lent x y c.requires.serial_value (scan_new lent x y c.tube_of-t.result c.tube_of-t.ensures c.if-t-h.false)
