@@ -40,7 +40,7 @@ judge_hear-k-requires c =
     let call : Call =
     steps.hear c.args.node c.args.number in
     let typed : Typed c.args.house =
-    let g = c.well_formed.0.1.1.1.1.1.1.1.1.1 in record { stations = search rules; serials = search rules } in
+    record { stations = search rules; serials = search rules } in
     let gated : first (gate lent call) ≡ 0 =
     sym c.gate-found.ensures ∙ c.if-found-ne0.false in
     let whole : Whole lent =
@@ -79,7 +79,7 @@ overflow_cast-node c =
     let call : Call =
     steps.hear c.args.node c.args.number in
     let typed : Typed c.args.house =
-    let g = c.well_formed.0.1.1.1.1.1.1.1.1.1 in record { stations = search rules; serials = search rules } in
+    record { stations = search rules; serials = search rules } in
     let gated : first (gate lent call) ≡ 0 =
     sym c.gate-found.ensures ∙ c.if-found-ne0.false in
     let judged : reply lent call ≡ c.judge_hear-k.result =
@@ -100,7 +100,7 @@ overflow_cast-number c =
     let call : Call =
     steps.hear c.args.node c.args.number in
     let typed : Typed c.args.house =
-    let g = c.well_formed.0.1.1.1.1.1.1.1.1.1 in record { stations = search rules; serials = search rules } in
+    record { stations = search rules; serials = search rules } in
     let gated : first (gate lent call) ≡ 0 =
     sym c.gate-found.ensures ∙ c.if-found-ne0.false in
     let judged : reply lent call ≡ c.judge_hear-k.result =
@@ -120,7 +120,7 @@ act_hear-requires c =
     let call : Call =
     steps.hear c.args.node c.args.number in
     let typed : Typed c.args.house =
-    let g = c.well_formed.0.1.1.1.1.1.1.1.1.1 in record { stations = search rules; serials = search rules } in
+    record { stations = search rules; serials = search rules } in
     let gated : first (gate lent call) ≡ 0 =
     sym c.gate-found.ensures ∙ c.if-found-ne0.false in
     let whole : Whole lent =

@@ -45,7 +45,7 @@ judge_scan-k-requires c =
     let call : Call =
     steps.scan c.args.station c.args.serial in
     let typed : Typed c.args.house =
-    let g = c.well_formed.0.1.1.1.1.1.1.1.1.1 in record { stations = search rules; serials = search rules } in
+    record { stations = search rules; serials = search rules } in
     let gated : first (gate lent call) ≡ 0 =
     sym c.gate-found.ensures ∙ c.if-found-ne0.false in
     let whole : Whole lent =
@@ -84,7 +84,7 @@ overflow_cast-station c =
     let call : Call =
     steps.scan c.args.station c.args.serial in
     let typed : Typed c.args.house =
-    let g = c.well_formed.0.1.1.1.1.1.1.1.1.1 in record { stations = search rules; serials = search rules } in
+    record { stations = search rules; serials = search rules } in
     let gated : first (gate lent call) ≡ 0 =
     sym c.gate-found.ensures ∙ c.if-found-ne0.false in
     let whole : Whole lent =
@@ -106,7 +106,7 @@ tube_of-t-requires c =
     let call : Call =
     steps.scan c.args.station c.args.serial in
     let typed : Typed c.args.house =
-    let g = c.well_formed.0.1.1.1.1.1.1.1.1.1 in record { stations = search rules; serials = search rules } in
+    record { stations = search rules; serials = search rules } in
     let gated : first (gate lent call) ≡ 0 =
     sym c.gate-found.ensures ∙ c.if-found-ne0.false in
     let whole : Whole lent =
@@ -121,7 +121,7 @@ overflow_cast-station-2 c =
     let call : Call =
     steps.scan c.args.station c.args.serial in
     let typed : Typed c.args.house =
-    let g = c.well_formed.0.1.1.1.1.1.1.1.1.1 in record { stations = search rules; serials = search rules } in
+    record { stations = search rules; serials = search rules } in
     let gated : first (gate lent call) ≡ 0 =
     sym c.gate-found.ensures ∙ c.if-found-ne0.false in
     let whole : Whole lent =
@@ -143,7 +143,7 @@ act_scan-h-requires c =
     let call : Call =
     steps.scan c.args.station c.args.serial in
     let typed : Typed c.args.house =
-    let g = c.well_formed.0.1.1.1.1.1.1.1.1.1 in record { stations = search rules; serials = search rules } in
+    record { stations = search rules; serials = search rules } in
     let gated : first (gate lent call) ≡ 0 =
     sym c.gate-found.ensures ∙ c.if-found-ne0.false in
     let whole : Whole lent =
@@ -162,7 +162,7 @@ overflow_cast-result c =
     let call : Call =
     steps.scan c.args.station c.args.serial in
     let typed : Typed c.args.house =
-    let g = c.well_formed.0.1.1.1.1.1.1.1.1.1 in record { stations = search rules; serials = search rules } in
+    record { stations = search rules; serials = search rules } in
     let gated : first (gate lent call) ≡ 0 =
     sym c.gate-found.ensures ∙ c.if-found-ne0.false in
     let whole : Whole lent =

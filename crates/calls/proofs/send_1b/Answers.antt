@@ -42,7 +42,7 @@ judge_1b-k-requires c =
     let call : Call =
     c1b c.args.row c.args.node c.args.ballot in
     let typed : Typed c.args.house =
-    let g = c.well_formed.0.1.1.1.1.1.1.1.1.1 in record { stations = search rules; serials = search rules } in
+    record { stations = search rules; serials = search rules } in
     let gated : first (gate lent call) ≡ 0 =
     sym c.gate-found.ensures ∙ c.if-found-ne0.false in
     let whole : Whole lent =
@@ -81,7 +81,7 @@ overflow_cast-n c =
     let call : Call =
     c1b c.args.row c.args.node c.args.ballot in
     let typed : Typed c.args.house =
-    let g = c.well_formed.0.1.1.1.1.1.1.1.1.1 in record { stations = search rules; serials = search rules } in
+    record { stations = search rules; serials = search rules } in
     let gated : first (gate lent call) ≡ 0 =
     sym c.gate-found.ensures ∙ c.if-found-ne0.false in
     let judged : reply lent call ≡ c.judge_1b-k.result =
@@ -102,7 +102,7 @@ overflow_cast-row c =
     let call : Call =
     c1b c.args.row c.args.node c.args.ballot in
     let typed : Typed c.args.house =
-    let g = c.well_formed.0.1.1.1.1.1.1.1.1.1 in record { stations = search rules; serials = search rules } in
+    record { stations = search rules; serials = search rules } in
     let gated : first (gate lent call) ≡ 0 =
     sym c.gate-found.ensures ∙ c.if-found-ne0.false in
     let judged : reply lent call ≡ c.judge_1b-k.result =
@@ -123,7 +123,7 @@ overflow_cast-ballot c =
     let call : Call =
     c1b c.args.row c.args.node c.args.ballot in
     let typed : Typed c.args.house =
-    let g = c.well_formed.0.1.1.1.1.1.1.1.1.1 in record { stations = search rules; serials = search rules } in
+    record { stations = search rules; serials = search rules } in
     let gated : first (gate lent call) ≡ 0 =
     sym c.gate-found.ensures ∙ c.if-found-ne0.false in
     let judged : reply lent call ≡ c.judge_1b-k.result =
@@ -143,7 +143,7 @@ act_1b-h-requires c =
     let call : Call =
     c1b c.args.row c.args.node c.args.ballot in
     let typed : Typed c.args.house =
-    let g = c.well_formed.0.1.1.1.1.1.1.1.1.1 in record { stations = search rules; serials = search rules } in
+    record { stations = search rules; serials = search rules } in
     let gated : first (gate lent call) ≡ 0 =
     sym c.gate-found.ensures ∙ c.if-found-ne0.false in
     let whole : Whole lent =

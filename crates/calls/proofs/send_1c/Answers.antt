@@ -41,7 +41,7 @@ judge_1c-k-requires c =
     let call : Call =
     c1c c.args.row c.args.ballot c.args.tube in
     let typed : Typed c.args.house =
-    let g = c.well_formed.0.1.1.1.1.1.1.1.1.1 in record { stations = search rules; serials = search rules } in
+    record { stations = search rules; serials = search rules } in
     let gated : first (gate lent call) ≡ 0 =
     sym c.gate-found.ensures ∙ c.if-found-ne0.false in
     let whole : Whole lent =
@@ -80,7 +80,7 @@ overflow_cast-v c =
     let call : Call =
     c1c c.args.row c.args.ballot c.args.tube in
     let typed : Typed c.args.house =
-    let g = c.well_formed.0.1.1.1.1.1.1.1.1.1 in record { stations = search rules; serials = search rules } in
+    record { stations = search rules; serials = search rules } in
     let gated : first (gate lent call) ≡ 0 =
     sym c.gate-found.ensures ∙ c.if-found-ne0.false in
     let judged : reply lent call ≡ c.judge_1c-k.result =
@@ -101,7 +101,7 @@ overflow_cast-row c =
     let call : Call =
     c1c c.args.row c.args.ballot c.args.tube in
     let typed : Typed c.args.house =
-    let g = c.well_formed.0.1.1.1.1.1.1.1.1.1 in record { stations = search rules; serials = search rules } in
+    record { stations = search rules; serials = search rules } in
     let gated : first (gate lent call) ≡ 0 =
     sym c.gate-found.ensures ∙ c.if-found-ne0.false in
     let judged : reply lent call ≡ c.judge_1c-k.result =
@@ -122,7 +122,7 @@ overflow_cast-ballot c =
     let call : Call =
     c1c c.args.row c.args.ballot c.args.tube in
     let typed : Typed c.args.house =
-    let g = c.well_formed.0.1.1.1.1.1.1.1.1.1 in record { stations = search rules; serials = search rules } in
+    record { stations = search rules; serials = search rules } in
     let gated : first (gate lent call) ≡ 0 =
     sym c.gate-found.ensures ∙ c.if-found-ne0.false in
     let judged : reply lent call ≡ c.judge_1c-k.result =
@@ -142,7 +142,7 @@ act_1c-h-requires c =
     let call : Call =
     c1c c.args.row c.args.ballot c.args.tube in
     let typed : Typed c.args.house =
-    let g = c.well_formed.0.1.1.1.1.1.1.1.1.1 in record { stations = search rules; serials = search rules } in
+    record { stations = search rules; serials = search rules } in
     let gated : first (gate lent call) ≡ 0 =
     sym c.gate-found.ensures ∙ c.if-found-ne0.false in
     let whole : Whole lent =

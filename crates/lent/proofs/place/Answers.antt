@@ -55,7 +55,7 @@ judge_foreign-k-requires c =
     let call : Call =
     foreign given in
     let typed : Typed c.args.copy =
-    let g = c.well_formed.0.1.1.1.1.1.1.1.1.1 in record { stations = search rules; serials = search rules } in
+    record { stations = search rules; serials = search rules } in
     let gated : first (gate lent call) ≡ 0 =
     sym c.gate-found.ensures ∙ c.if-found-ne0.false in
     let whole : Whole lent =
@@ -100,7 +100,7 @@ message-m-requires c =
     let call : Call =
     foreign given in
     let typed : Typed c.args.copy =
-    let g = c.well_formed.0.1.1.1.1.1.1.1.1.1 in record { stations = search rules; serials = search rules } in
+    record { stations = search rules; serials = search rules } in
     let gated : first (gate lent call) ≡ 0 =
     sym c.gate-found.ensures ∙ c.if-found-ne0.false in
     let judged : reply lent call ≡ c.judge_foreign-k.result =
@@ -122,7 +122,7 @@ post-out-requires c =
     let call : Call =
     foreign given in
     let typed : Typed c.args.copy =
-    let g = c.well_formed.0.1.1.1.1.1.1.1.1.1 in record { stations = search rules; serials = search rules } in
+    record { stations = search rules; serials = search rules } in
     let gated : first (gate lent call) ≡ 0 =
     sym c.gate-found.ensures ∙ c.if-found-ne0.false in
     let judged : reply lent call ≡ c.judge_foreign-k.result =
@@ -152,7 +152,7 @@ returns c =
     let accepted : reply lent call ≡ 0 =
     judged ∙ c.if-k-ne0.false in
     let typed : Typed c.args.copy =
-    let g = c.well_formed.0.1.1.1.1.1.1.1.1.1 in record { stations = search rules; serials = search rules } in
+    record { stations = search rules; serials = search rules } in
     let past_all : Passed lent call =
     passed lent call typed accepted in
     let fits : Postable c.args.copy c.args.board.now c.message-m.result =

@@ -13,28 +13,28 @@ use Rattle.page.proofs.open_room.Goals as goal
 pub slice_bounds-quorums-end : goal.slice_bounds-quorums-end
 slice_bounds-quorums-end c =
     let quorums_long : length c.args.h.quorums ≡ 65 =
-    let g = c.well_formed.0 in search rules in
+    search rules in
     let len = quorums_long in
     omega (arith, c.held-listed.ensures.upper_bound)
 
 pub slice_bounds-open-end : goal.slice_bounds-open-end
 slice_bounds-open-end c =
     let quorums_long : length c.args.h.quorums ≡ 65 =
-    let g = c.well_formed.0 in search rules in
+    search rules in
     let len = quorums_long in
     sym (length-take-le c.held-listed.result c.args.h.quorums (omega (arith, c.held-listed.ensures.upper_bound)))
 
 pub slice_bounds-weaks-end : goal.slice_bounds-weaks-end
 slice_bounds-weaks-end c =
     let weaks_long : length c.args.h.weaks ≡ 65 =
-    let g = c.well_formed.0.1.1.1.1 in search rules in
+    search rules in
     let len = weaks_long in
     omega (arith, c.held-backers.ensures.upper_bound)
 
 pub slice_bounds-open-end-2 : goal.slice_bounds-open-end-2
 slice_bounds-open-end-2 c =
     let weaks_long : length c.args.h.weaks ≡ 65 =
-    let g = c.well_formed.0.1.1.1.1 in search rules in
+    search rules in
     let len = weaks_long in
     sym (length-take-le c.held-backers.result c.args.h.weaks (omega (arith, c.held-backers.ensures.upper_bound)))
 
@@ -43,9 +43,9 @@ returns c =
     let lent : Memory =
     let a = c.args in memory a.house a.board.now a.cells.now a.heard.now in
     let quorums_long : length c.args.h.quorums ≡ 65 =
-    let g = c.well_formed.0 in search rules in
+    search rules in
     let weaks_long : length c.args.h.weaks ≡ 65 =
-    let g = c.well_formed.0.1.1.1.1 in search rules in
+    search rules in
     started (heads_of c.args.h) lent _ _
     (c.held-listed.ensures.by_index c.args.h.quorums quorums_long) (c.held-backers.ensures.by_index c.args.h.weaks weaks_long)
     _ _ c.open-opening.ensures _ _ (ap (λ (x : Answer). x.number) c.in_numbers-answer.ensures) c.due_after.ensures

@@ -16,7 +16,7 @@ pub returns-then-s-eq0 : goal.returns-then-s-eq0
 returns-then-s-eq0 c =
     let held-length : length (take c.args.s.held c.args.line.now) ≡ c.args.s.held =
     let q : 256 ≤ length c.args.line.now = c.requires.in_bounds in
-    length-take-le _ _ (omega (arith, c.well_formed.0.1.1)) in
+    length-take-le _ _ (omega arith) in
     let w = c.end_sheet in
     record { wrote = wrote_as (last_none _ _ (held-length ∙ c.if-s-eq0.true)) w.ensures.wrote; upper_bound = omega (arith, w.ensures.upper_bound) }
 
@@ -24,7 +24,7 @@ pub slice_bounds-take_line-end : goal.slice_bounds-take_line-end
 slice_bounds-take_line-end c =
     let held-length : length (take c.args.s.held c.args.line.now) ≡ c.args.s.held =
     let q : 256 ≤ length c.args.line.now = c.requires.in_bounds in
-    length-take-le _ _ (omega (arith, c.well_formed.0.1.1)) in
+    length-take-le _ _ (omega arith) in
     sym (held-length)
 
 pub slice_bounds-end_sheet-count : goal.slice_bounds-end_sheet-count
@@ -62,7 +62,7 @@ pub returns : goal.returns
 returns c =
     let held-length : length (take c.args.s.held c.args.line.now) ≡ c.args.s.held =
     let q : 256 ≤ length c.args.line.now = c.requires.in_bounds in
-    length-take-le _ _ (omega (arith, c.well_formed.0.1.1)) in
+    length-take-le _ _ (omega arith) in
     let roomy : let t = c.take_line-taken in t.result.end + 8226 ≤ length t.new.out =
     let t = c.take_line-taken in
     let q : 8294 ≤ length c.args.out.now = c.requires.in_bounds_2 in

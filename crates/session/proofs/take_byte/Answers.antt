@@ -10,7 +10,7 @@ returns-then-b-ne10 c = let a = c.args in
     record { ate = ate_byte _ _ a.b a.out.now c.if-b-ne10.true c.keep_byte-held.ensures; wrote_bound = omega arith }
 
 pub slice_bounds-take_line-end-2 : goal.slice_bounds-take_line-end-2
-slice_bounds-take_line-end-2 c = let g = c.well_formed.0.1.1 in sym (length-take-le _ _ (omega (arith, g)))
+slice_bounds-take_line-end-2 c = sym (length-take-le _ _ (omega arith))
 
 pub returns : goal.returns
 returns c = let a = c.args in

@@ -37,7 +37,7 @@ judge_foreign-k-requires c =
     let call : Call =
     foreign (post_of c.args.post c.args.pairs) in
     let typed : Typed c.args.house =
-    let g = c.well_formed.0.1.1.1.1.1.1.1.1.1 in record { stations = search rules; serials = search rules } in
+    record { stations = search rules; serials = search rules } in
     let gated : first (gate lent call) ≡ 0 =
     sym c.gate-found.ensures ∙ c.if-found-ne0.false in
     let whole : Whole lent =
@@ -75,7 +75,7 @@ act_foreign-h-requires c =
     let call : Call =
     foreign (post_of c.args.post c.args.pairs) in
     let typed : Typed c.args.house =
-    let g = c.well_formed.0.1.1.1.1.1.1.1.1.1 in record { stations = search rules; serials = search rules } in
+    record { stations = search rules; serials = search rules } in
     let gated : first (gate lent call) ≡ 0 =
     sym c.gate-found.ensures ∙ c.if-found-ne0.false in
     let whole : Whole lent =

@@ -39,7 +39,7 @@ judge_2b-k-requires c =
     let call : Call =
     c2b c.args.row c.args.node c.args.ballot c.args.tube in
     let typed : Typed c.args.house =
-    let g = c.well_formed.0.1.1.1.1.1.1.1.1.1 in record { stations = search rules; serials = search rules } in
+    record { stations = search rules; serials = search rules } in
     let gated : first (gate lent call) ≡ 0 =
     sym c.gate-found.ensures ∙ c.if-found-ne0.false in
     let whole : Whole lent =
@@ -78,7 +78,7 @@ overflow_cast-r c =
     let call : Call =
     c2b c.args.row c.args.node c.args.ballot c.args.tube in
     let typed : Typed c.args.house =
-    let g = c.well_formed.0.1.1.1.1.1.1.1.1.1 in record { stations = search rules; serials = search rules } in
+    record { stations = search rules; serials = search rules } in
     let gated : first (gate lent call) ≡ 0 =
     sym c.gate-found.ensures ∙ c.if-found-ne0.false in
     let judged : reply lent call ≡ c.judge_2b-k.result =
@@ -99,7 +99,7 @@ overflow_cast-n c =
     let call : Call =
     c2b c.args.row c.args.node c.args.ballot c.args.tube in
     let typed : Typed c.args.house =
-    let g = c.well_formed.0.1.1.1.1.1.1.1.1.1 in record { stations = search rules; serials = search rules } in
+    record { stations = search rules; serials = search rules } in
     let gated : first (gate lent call) ≡ 0 =
     sym c.gate-found.ensures ∙ c.if-found-ne0.false in
     let judged : reply lent call ≡ c.judge_2b-k.result =
@@ -120,7 +120,7 @@ overflow_cast-b c =
     let call : Call =
     c2b c.args.row c.args.node c.args.ballot c.args.tube in
     let typed : Typed c.args.house =
-    let g = c.well_formed.0.1.1.1.1.1.1.1.1.1 in record { stations = search rules; serials = search rules } in
+    record { stations = search rules; serials = search rules } in
     let gated : first (gate lent call) ≡ 0 =
     sym c.gate-found.ensures ∙ c.if-found-ne0.false in
     let judged : reply lent call ≡ c.judge_2b-k.result =
@@ -141,7 +141,7 @@ overflow_cast-v c =
     let call : Call =
     c2b c.args.row c.args.node c.args.ballot c.args.tube in
     let typed : Typed c.args.house =
-    let g = c.well_formed.0.1.1.1.1.1.1.1.1.1 in record { stations = search rules; serials = search rules } in
+    record { stations = search rules; serials = search rules } in
     let gated : first (gate lent call) ≡ 0 =
     sym c.gate-found.ensures ∙ c.if-found-ne0.false in
     let judged : reply lent call ≡ c.judge_2b-k.result =
@@ -161,7 +161,7 @@ act_2b-h-requires c =
     let call : Call =
     c2b c.args.row c.args.node c.args.ballot c.args.tube in
     let typed : Typed c.args.house =
-    let g = c.well_formed.0.1.1.1.1.1.1.1.1.1 in record { stations = search rules; serials = search rules } in
+    record { stations = search rules; serials = search rules } in
     let gated : first (gate lent call) ≡ 0 =
     sym c.gate-found.ensures ∙ c.if-found-ne0.false in
     let whole : Whole lent =

@@ -15,7 +15,7 @@ pub returns : goal.returns
 unfolding reply_of
 returns c =
     let sets : (length c.args.house.quorums ≡ 64) × (length c.args.house.weaks ≡ 64) =
-    let g = c.well_formed.1.0.1.1.1.1.1 in (search rules, search rules) in
+    (search rules, search rules) in
     let s = c.args.out.now in
     let a = c.args.answer in
     let h = c.args.house in
