@@ -93,7 +93,12 @@ pub fn ascending(pairs: [u8; 32], count: u8) -> bool
     ensures { result ≡ ascend (pairs_of count pairs) }
 {
     for i in 1..usize::from(count) {
-        if !comes_before(pairs[2 * i - 2], pairs[2 * i - 1], pairs[2 * i], pairs[2 * i + 1]) {
+        if !comes_before(
+            pairs[2 * i - 2],
+            pairs[2 * i - 1],
+            pairs[2 * i],
+            pairs[2 * i + 1],
+        ) {
             return false;
         }
     }
@@ -119,6 +124,7 @@ pub fn zero_from(pairs: [u8; 32], at: usize) -> bool
 }
 
 // Whether the pairs are sixteen at most, within limits and ascending, and every unused one is 0.
+#[tactic(auto, using(crate::proofs::Arrays::whole))]
 pub fn pairs_in(pairs: [u8; 32], count: u8) -> bool
     ensures { result ≡ pairs_in (pairs_of count pairs) && pairs_plain count pairs }
 {
