@@ -9,7 +9,7 @@ ghost use Rattle.rules.specs.Steps.{tube_for};
 pub fn is_scan(station: u8, serial: u32, a: u8, b: u32) -> bool
     ensures { result ≡ eqb station a && eqb serial b }
 {
-    (station == a) & (serial == b)
+    station == a && serial == b
 }
 
 // The tube of a known scan, or the next one.
@@ -32,5 +32,11 @@ pub fn tube_of(h: rules::House, station: u8, serial: u32) -> usize
     requires { h.tubes ≤ 64 }
     ensures { result ≡ tube_for (intake_of h.stations h.serials h.tubes) station serial }
 {
-    tube_for(&h.stations, &h.serials, usize::from(h.tubes), station, serial)
+    tube_for(
+        &h.stations,
+        &h.serials,
+        usize::from(h.tubes),
+        station,
+        serial,
+    )
 }
