@@ -14,7 +14,6 @@ pub fn decode(s: &[u8]) -> rules::Message
     requires { length s.now ≡ 40 }
     ensures { result ≡ msg_of s.now }
 {
-    let p = cell::pairs_at(s, 8);
     rules::Message {
         kind: s[0],
         row: s[1],
@@ -24,19 +23,19 @@ pub fn decode(s: &[u8]) -> rules::Message
         mbal: s[5],
         mval: s[6],
         count: s[7],
-        pairs: p,
+        pairs: cell::pairs_at(s, 8),
     }
 }
 
 // The message numbered k of the lent board.
+#[tactic(auto, unfolding(rules::specs::Lent::msg_at))]
 pub fn msg_at(board: &[u8], k: usize) -> rules::Message
     requires k_bound { k < 1024 }
     requires k_in_bounds { 40 * k + 40 ≤ length board.now }
     ensures { result ≡ msg_at board.now k }
 {
     let a = 40 * k;
-    let e = a + 40;
-    decode(&board[a..e])
+    decode(&board[a..a + 40])
 }
 
 // A message into the first forty bytes of a slice; the others stay.
@@ -52,8 +51,7 @@ pub fn put_msg(s: &mut [u8], m: rules::Message)
     s[5] = m.mbal;
     s[6] = m.mval;
     s[7] = m.count;
-    let p = m.pairs;
-    cell::put_pairs(s, 8, p);
+    cell::put_pairs(s, 8, m.pairs);
 }
 
 // The part from 40 * n of the lent board is passed on to the message writer.
@@ -62,8 +60,7 @@ pub fn append(board: &mut [u8], n: usize, m: rules::Message)
     requires n_in_bounds { 40 * n + 40 ≤ length board.old }
     ensures { board.new ≡ patch board.old (40 * n) (bytes_of m) }
 {
-    let a = 40 * n;
-    put_msg(&mut board[a..], m);
+    put_msg(&mut board[40 * n..], m);
 }
 
 // Whether two slices hold the same bytes.
@@ -71,14 +68,7 @@ pub fn same_bytes(s: &[u8], t: &[u8]) -> bool
     requires { length s.now ≡ length t.now }
     ensures { result ≡ eqs s.now t.now }
 {
-    let mut i: usize = 0;
-    while i < s.len() {
-        if s[i] != t[i] {
-            return false;
-        }
-        i += 1;
-    }
-    true
+    s == t
 }
 
 // Whether these forty bytes are those of the message numbered k.
@@ -89,23 +79,21 @@ pub fn same_at(board: &[u8], k: usize, b: &[u8]) -> bool
     ensures { result ≡ eqs (window 40 k board.now) b.now }
 {
     let a = 40 * k;
-    let e = a + 40;
-    same_bytes(&board[a..e], b)
+    same_bytes(&board[a..a + 40], b)
 }
 
 // Whether these forty bytes are those of one of the first n messages.
+#[tactic(auto, using(rules::proofs::Scan::below_here), unfolding(crate::specs::Asked::standing))]
 pub fn stands(board: &[u8], n: usize, b: &[u8]) -> bool
     requires n_bound { n ≤ 1024 }
     requires n_in_bounds { 40 * n ≤ length board.now }
     requires b_len { length b.now ≡ 40 }
     ensures { result ≡ standing board.now n b.now }
 {
-    let mut i: usize = 0;
-    while i < n {
+    for i in 0..n {
         if same_at(board, i, b) {
             return true;
         }
-        i += 1;
     }
     false
 }
@@ -126,14 +114,15 @@ pub fn post(h: rules::House, board: &mut [u8], m: rules::Message) -> rules::Hous
     requires { Postable h board.old m }
     ensures { Posted h board.old m result board.new }
 {
-    let n = h.count as usize;
+    let n = usize::from(h.count);
     if on_board(board, n, m) {
         return h;
     }
     append(board, n, m);
-    let mut x = h;
-    x.count = h.count + 1;
-    x
+    rules::House {
+        count: h.count + 1,
+        ..h
+    }
 }
 
 // A message that has no mbal, mval and pairs: any but a 1b.
@@ -146,9 +135,8 @@ pub fn bare(
 ) -> rules::Message
     ensures { result ≡ line kind row.0 ballot.0 node.0 tube.0 0 0 [] }
 {
-    let p = [0u8; 32];
     rules::Message {
-        kind: kind,
+        kind,
         row: row.0,
         bal: ballot.0,
         node: node.0,
@@ -156,7 +144,7 @@ pub fn bare(
         mbal: 0,
         mval: 0,
         count: 0,
-        pairs: p,
+        pairs: [0; 32],
     }
 }
 
@@ -165,8 +153,11 @@ pub fn has_1a(board: &[u8], n: usize, row: rules::Row, ballot: rules::Ballot) ->
     requires { Plain board.now n }
     ensures { result ≡ has (m1a row.0 ballot.0) (board_of board.now n) }
 {
-    let m = bare(1, row, ballot, rules::Node(0), rules::Tube(0));
-    on_board(board, n, m)
+    on_board(
+        board,
+        n,
+        bare(1, row, ballot, rules::Node(0), rules::Tube(0)),
+    )
 }
 
 // Whether the 1c of this row, ballot and tube is on the board.
@@ -180,35 +171,30 @@ pub fn has_1c(
     requires { Plain board.now n }
     ensures { result ≡ has (m1c row.0 ballot.0 tube.0) (board_of board.now n) }
 {
-    let m = bare(3, row, ballot, rules::Node(0), tube);
-    on_board(board, n, m)
+    on_board(board, n, bare(3, row, ballot, rules::Node(0), tube))
 }
 
 // The kind that a message means.
+#[tactic(auto, using(crate::proofs::Means::kind_in, crate::proofs::Means::kind_out))]
 pub fn kind_of(m: rules::Message) -> u8
     ensures { result ≡ kind_of (meaning m) }
 {
-    if m.kind == 0 {
-        return 5;
-    }
-    if m.kind > 4 {
-        return 5;
-    }
-    m.kind
+    if (1..=4).contains(&m.kind) { m.kind } else { 5 }
 }
 
 // Whether the message numbered k is a 1b.
+#[tactic(auto, using(crate::proofs::Means::board_1b))]
 pub fn is_1b_at(board: &[u8], n: usize, k: usize) -> bool
     requires n_bound { n ≤ 1024 }
     requires n_in_bounds { 40 * n ≤ length board.now }
     requires k_lt_n { k < n }
     ensures { result ≡ is_1b_at (board_of board.now n) k }
 {
-    let m = msg_at(board, k);
-    kind_of(m) == 2
+    kind_of(msg_at(board, k)) == 2
 }
 
 // Whether a message is a vote of this kind (4 a 2av, 5 a 2b) for this row, ballot and tube, by its own node.
+#[tactic(auto, using(crate::proofs::Means::vote_own))]
 pub fn is_vote(
     m: rules::Message,
     kind: u8,
@@ -219,16 +205,7 @@ pub fn is_vote(
     requires { 4 ≤ kind }
     ensures { result ≡ is_vote kind row.0 ballot.0 tube.0 m.node (meaning m) }
 {
-    if kind_of(m) != kind {
-        return false;
-    }
-    if m.row != row.0 {
-        return false;
-    }
-    if m.bal != ballot.0 {
-        return false;
-    }
-    m.tube == tube.0
+    kind_of(m) == kind && m.row == row.0 && m.bal == ballot.0 && m.tube == tube.0
 }
 
 // The set with the voter, if the message is such a vote.
@@ -244,9 +221,10 @@ pub fn with_voter(
     ensures { (a : ℕ) → a < 8 → bit result a ≡ bit set a || is_vote kind row.0 ballot.0 tube.0 a (meaning m) }
 {
     if is_vote(m, kind, row, ballot, tube) {
-        return sets::with_node(set, m.node);
+        sets::with_node(set, m.node)
+    } else {
+        set
     }
-    set
 }
 
 // The nodes that have a message of this kind (4 a 2av, 5 a 2b) for this row, ballot and tube on the board.
@@ -264,11 +242,8 @@ pub fn votes(
     ensures { Gathered result (λ a. any (is_vote kind row.0 ballot.0 tube.0 a) (board_of board.now n)) }
 {
     let mut set: u8 = 0;
-    let mut i: usize = 0;
-    while i < n {
-        let m = msg_at(board, i);
-        set = with_voter(set, m, kind, row, ballot, tube);
-        i += 1;
+    for i in 0..n {
+        set = with_voter(set, msg_at(board, i), kind, row, ballot, tube);
     }
     set
 }
@@ -288,8 +263,6 @@ pub fn covered(
     requires le_kind { 4 ≤ kind }
     ensures { result ≡ covers (room_of h) (room_of h).quorums (is_vote kind row.0 ballot.0 tube.0) (board_of board.now h.count) }
 {
-    let n = h.count as usize;
-    let set = votes(board, n, kind, row, ballot, tube);
-    let list = h.quorums;
-    sets::some_full(list, h.listed, h.nodes, set)
+    let set = votes(board, usize::from(h.count), kind, row, ballot, tube);
+    sets::some_full(h.quorums, h.listed, h.nodes, set)
 }
