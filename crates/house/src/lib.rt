@@ -12,8 +12,7 @@ pub fn with_node(marks: u8, node: Node) -> u8
     requires { node.0 < 8 }
     ensures { result ≡ bit_or marks (2 ^ node.0) }
 {
-    let n = node.0;
-    marks | (1u8 << n)
+    marks | (1 << node.0)
 }
 
 // One node's mark is set, where the record stands.
@@ -21,9 +20,7 @@ pub fn mark(h: &mut House, node: Node)
     requires { node.0 < 8 }
     ensures { h.new ≡ marked h.old node.0 }
 {
-    let m = h.marks;
-    let n = with_node(m, node);
-    h.marks = n;
+    h.marks = with_node(h.marks, node);
 }
 
 // The message count goes up by one, where the record stands.
@@ -31,5 +28,5 @@ pub fn raise(h: &mut House)
     requires { h.old.count < 1024 }
     ensures { h.new ≡ raised h.old (h.old.count + 1) }
 {
-    h.count = h.count + 1;
+    h.count += 1;
 }
