@@ -10,9 +10,7 @@ pub fn pairs_at(s: &[u8], at: usize) -> [u8; 32]
     requires { at + 32 ≤ length s.now }
     ensures { result ≡ take 32 (drop at s.now) }
 {
-    let mut out = [0u8; 32];
-    out.copy_from_slice(&s[at..at + 32]);
-    out
+    <[u8; 32]>::try_from(&s[at..at + 32]).unwrap()
 }
 
 // A cell's part is handed to the reader.
