@@ -83,7 +83,7 @@ pub fn same_at(board: &[u8], k: usize, b: &[u8]) -> bool
 }
 
 // Whether these forty bytes are those of one of the first n messages.
-#[tactic(auto, using(rules::proofs::Scan::below_here), unfolding(crate::specs::Asked::standing))]
+#[tactic(auto, unfolding(crate::specs::Asked::standing))]
 pub fn stands(board: &[u8], n: usize, b: &[u8]) -> bool
     requires n_bound { n ≤ 1024 }
     requires n_in_bounds { 40 * n ≤ length board.now }
