@@ -28,7 +28,6 @@ pub fn decode(s: &[u8]) -> rules::Message
 }
 
 // The message numbered k of the lent board.
-#[tactic(auto, unfolding(rules::specs::Lent::msg_at))]
 pub fn msg_at(board: &[u8], k: usize) -> rules::Message
     requires k_bound { k < 1024 }
     requires k_in_bounds { 40 * k + 40 ≤ length board.now }
@@ -175,7 +174,6 @@ pub fn has_1c(
 }
 
 // The kind that a message means.
-#[tactic(auto, using(crate::proofs::Means::kind_in, crate::proofs::Means::kind_out))]
 pub fn kind_of(m: rules::Message) -> u8
     ensures { result ≡ kind_of (meaning m) }
 {
