@@ -3,9 +3,8 @@ use mathlib.Core.Path.{◌≡◌, ap, ◌∙◌}
 use mathlib.Core.Bool.{Bool, true, ◌&&◌}
 use mathlib.Core.List.{List, [], ◌∷◌}
 use Prim.Native.Nat.{ℕ, ◌^◌, ◌≤◌}
-use native.Mathlib.Omega.{arith}
 use lib.Dec.{T, eqb, ltb, leb→le}
-use lib.ListN.{length, take}
+use lib.ListN.{take}
 use Rattle.rules.specs.Tests.{all, all_below, distinct, first}
 use Rattle.rules.specs.Lent.{memory, counts, tables, room_of, intake_of, same_scan, house_form}
 use Rattle.rules.specs.declared.House.{House}
@@ -51,16 +50,6 @@ pub tables_are : (h : House) (a b c d : Bool)
     → all (passes h.nodes h.faulty Strong) (take h.backers h.weaks) ≡ d
     → first (tables (room_of h)) ≡ first ((a && b, 2) ∷ (c, 3) ∷ (d, 4) ∷ [])
 tables_are h a b c d p q r s = λ i. first ((p i && q i, 2) ∷ (r i, 3) ∷ (s i, 4) ∷ [])
-
--- a list of the house record is as long as its count says
-pub listed-fit : (h : House) → counts h ≡ true → length h.quorums ≡ 64 → (h.nodes ≤ 8) × (h.listed ≤ length h.quorums)
-listed-fit h e l = let k = counted h e in (k.nodes, omega arith)
-
-pub backers_fit : (h : House) → counts h ≡ true → length h.weaks ≡ 64 → (h.nodes ≤ 8) × (h.backers ≤ length h.weaks)
-backers_fit h e l = let k = counted h e in (k.nodes, omega arith)
-
-pub scans-fit : (h : House) → counts h ≡ true → length h.stations ≡ 64 → length h.serials ≡ 64 → (h.tubes ≤ length h.stations) × (h.tubes ≤ length h.serials)
-scans-fit h e a b = let k = counted h e in (omega arith, omega arith)
 
 -- what the house record's form says, by the tests of its parts
 pub house_are : (h : House) (a b : Bool) → eqb (first (tables (room_of h))) 0 ≡ a → distinct same_scan (intake_of h.stations h.serials h.tubes) ≡ b

@@ -7,7 +7,7 @@ use native.Mathlib.Numerals.{add-one}
 use native.Mathlib.Omega.{arith}
 use borrow.Author.Tests.{ltb-true, ltb-false}
 use lib.Dec.{ltb}
-use lib.ListN.{length, get_or, take, set, get_or-eq_default}
+use lib.ListN.{length, get_or, take, set, replicate, get_or-eq_default}
 use lib.Pow.{pow_mono}
 use lib.Seq.{take-length}
 use Rattle.rules.specs.Tests.{all, all_below, fit, first}
@@ -20,6 +20,11 @@ use Rattle.tables.specs.Tables.{passes, share, with_lists}
 -- a list by its numbers
 pub all_list : (p : ℕ → Bool) (l : List ℕ) → all p l ≡ all_below (λ i. p (get_or l i 0)) (length l)
 all_list p l = ap (all p) (sym (take-length l)) ∙ all_take p l (length l) (omega arith)
+
+-- no number yet
+pub fit-none : (n : ℕ) → replicate n 0 ≡ fit n []
+fit-none zero = refl
+fit-none (suc n) = ap (λ (t : List ℕ). 0 ∷ t) (fit-none n)
 
 -- one number more fits
 pub fit-more : (n i : ℕ) (l : List ℕ) → i < length l → i < n → set (fit n (take i l)) i (get_or l i 0) ≡ fit n (take (i + 1) l)

@@ -2,9 +2,8 @@
 use mathlib.Core.Path.{refl, sym, ◌∙◌}
 use mathlib.Core.Bool.{true, false}
 use native.Mathlib.Omega.{arith}
-use borrow.Author.Rules.{rules}
 use borrow.Author.Tests.{eq-eqb, ne_eqb}
-use Rattle.tables.proofs.Counted.{counted, scans-fit, house_are}
+use Rattle.tables.proofs.Counted.{counted, house_are}
 use Rattle.tables.proofs.Sets.{power_fits}
 use Rattle.tables.proofs.house_ok.Goals as goal
 
@@ -12,18 +11,9 @@ pub returns-then-tables_number-ne0 : goal.returns-then-tables_number-ne0
 returns-then-tables_number-ne0 c =
     sym (house_are c.args.h false _ (ne_eqb _ 0 (λ z. c.if-tables_number-ne0.true (c.tables_number.ensures ∙ z))) refl)
 
-pub scans_differ-requires : goal.scans_differ-requires
-scans_differ-requires c =
-    let parts = scans-fit c.args.h c.requires (search rules) (search rules) in record { n_in_bounds = parts.0; n_in_bounds_2 = parts.1 }
-
 pub returns-then-not-scans_differ : goal.returns-then-not-scans_differ
 returns-then-not-scans_differ c =
     sym (house_are c.args.h true false (eq-eqb _ 0 (sym c.tables_number.ensures ∙ c.if-tables_number-ne0.false)) (sym c.scans_differ.ensures ∙ c.if-not-scans_differ.true))
-
-pub overflow_shl-result : goal.overflow_shl-result
-overflow_shl-result c =
-    let k = counted c.args.h c.requires in
-    omega arith
 
 pub returns : goal.returns
 returns c =

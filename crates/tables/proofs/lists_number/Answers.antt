@@ -1,9 +1,7 @@
 -- The tests of the tables in their order; sets that name present nodes are bytes.
-use mathlib.Core.Path.{◌≡◌, refl, sym, ◌∙◌}
-use mathlib.Core.Bool.{Bool, true, false}
-use Rattle.rules.specs.Tests.{pick, first}
-use Rattle.rules.specs.Lent.{tables}
-use Rattle.tables.specs.Tables.{with_lists}
+use mathlib.Core.Path.{refl, sym, ◌∙◌}
+use mathlib.Core.Bool.{true, false}
+use native.Mathlib.Omega.{arith}
 use Rattle.tables.proofs.Lists.{set_bytes, lists_are}
 use Rattle.tables.proofs.lists_number.Goals as goal
 
@@ -19,11 +17,11 @@ returns-then-not-sets_present-2 c =
 
 pub narrowed-q-requires : goal.narrowed-q-requires
 narrowed-q-requires c =
-    record { sets_len_bound = c.requires.quorums_len_bound.0; by_index = set_bytes c.args.nodes c.args.quorums.now c.requires.nodes_bound (sym c.sets_present.ensures ∙ c.if-not-sets_present.false) }
+    (omega arith, (c.requires.quorums_len_bound.0, set_bytes c.args.nodes c.args.quorums.now c.requires.nodes_bound (sym c.sets_present.ensures ∙ c.if-not-sets_present.false)))
 
 pub narrowed-w-requires : goal.narrowed-w-requires
 narrowed-w-requires c =
-    record { sets_len_bound = c.requires.quorums_len_bound.1; by_index = set_bytes c.args.nodes c.args.weaks.now c.requires.nodes_bound (sym c.sets_present-2.ensures ∙ c.if-not-sets_present-2.false) }
+    (omega arith, (c.requires.quorums_len_bound.1, set_bytes c.args.nodes c.args.weaks.now c.requires.nodes_bound (sym c.sets_present-2.ensures ∙ c.if-not-sets_present-2.false)))
 
 pub returns-then-not-all_share : goal.returns-then-not-all_share
 returns-then-not-all_share c =
@@ -33,22 +31,14 @@ returns-then-not-all_share c =
 
 pub returns-then-not-all_pass : goal.returns-then-not-all_pass
 returns-then-not-all_pass c =
-    let decided : (d : Bool) → c.all_pass.result ≡ d
-    → let a = c.args in
-    first (tables (with_lists a.nodes a.faulty a.quorums.now a.weaks.now)) ≡ pick d 0 4 =
-    λ d t. let a = c.args in
+    let a = c.args in
     let h = rw c.narrowed-q.ensures at (sym c.all_share.ensures ∙ c.if-not-all_share.false) in
-    let g = rw c.narrowed-w.ensures at (sym c.all_pass.ensures ∙ t) in
-    lists_are a.nodes a.faulty a.quorums.now a.weaks.now true true true d c.requires.quorums_len_bound.0 c.requires.quorums_len_bound.1 (sym c.sets_present.ensures ∙ c.if-not-sets_present.false) (sym c.sets_present-2.ensures ∙ c.if-not-sets_present-2.false) h g in
-    sym (decided false (c.if-not-all_pass.true))
+    let g = rw c.narrowed-w.ensures at (sym c.all_pass.ensures ∙ c.if-not-all_pass.true) in
+    sym (lists_are a.nodes a.faulty a.quorums.now a.weaks.now true true true false c.requires.quorums_len_bound.0 c.requires.quorums_len_bound.1 (sym c.sets_present.ensures ∙ c.if-not-sets_present.false) (sym c.sets_present-2.ensures ∙ c.if-not-sets_present-2.false) h g)
 
 pub returns : goal.returns
 returns c =
-    let decided : (d : Bool) → c.all_pass.result ≡ d
-    → let a = c.args in
-    first (tables (with_lists a.nodes a.faulty a.quorums.now a.weaks.now)) ≡ pick d 0 4 =
-    λ d t. let a = c.args in
+    let a = c.args in
     let h = rw c.narrowed-q.ensures at (sym c.all_share.ensures ∙ c.if-not-all_share.false) in
-    let g = rw c.narrowed-w.ensures at (sym c.all_pass.ensures ∙ t) in
-    lists_are a.nodes a.faulty a.quorums.now a.weaks.now true true true d c.requires.quorums_len_bound.0 c.requires.quorums_len_bound.1 (sym c.sets_present.ensures ∙ c.if-not-sets_present.false) (sym c.sets_present-2.ensures ∙ c.if-not-sets_present-2.false) h g in
-    sym (decided true (c.if-not-all_pass.false))
+    let g = rw c.narrowed-w.ensures at (sym c.all_pass.ensures ∙ c.if-not-all_pass.false) in
+    sym (lists_are a.nodes a.faulty a.quorums.now a.weaks.now true true true true c.requires.quorums_len_bound.0 c.requires.quorums_len_bound.1 (sym c.sets_present.ensures ∙ c.if-not-sets_present.false) (sym c.sets_present-2.ensures ∙ c.if-not-sets_present-2.false) h g)
