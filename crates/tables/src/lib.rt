@@ -118,10 +118,9 @@ pub fn tables_number(h: House) -> u8
 {
     let n = h.listed as usize;
     let k = h.backers as usize;
-    if !all_pass(h.nodes, h.faulty, Asked::Present, &h.quorums, n) {
-        return 2;
-    }
-    if !all_pass(h.nodes, h.faulty, Asked::Present, &h.weaks, k) {
+    if !all_pass(h.nodes, h.faulty, Asked::Present, &h.quorums, n)
+        || !all_pass(h.nodes, h.faulty, Asked::Present, &h.weaks, k)
+    {
         return 2;
     }
     if !all_share(h.nodes, h.faulty, &h.quorums, n) {
@@ -144,7 +143,7 @@ pub fn sets_present(nodes: u8, sets: &[u32]) -> bool
     sets.iter().all(|set| *set < top)
 }
 
-// The sets of a list as the house record has them, with zeros after them.
+// Numbers below 256 as an array of bytes, with zeros after them.
 pub fn narrowed<const N: usize>(sets: &[u32]) -> [u8; N]
     requires sets_len_bound { length sets.now ≤ N }
     requires by_index { (i : ℕ) → get_or sets.now i 0 < 256 }
@@ -163,10 +162,7 @@ pub fn lists_number(nodes: u8, faulty: u8, quorums: &[u32], weaks: &[u32]) -> u8
     requires quorums_len_bound { (length quorums.now ≤ 64) × (length weaks.now ≤ 64) }
     ensures { result ≡ first (tables (with_lists nodes faulty quorums.now weaks.now)) }
 {
-    if !sets_present(nodes, quorums) {
-        return 2;
-    }
-    if !sets_present(nodes, weaks) {
+    if !sets_present(nodes, quorums) || !sets_present(nodes, weaks) {
         return 2;
     }
     let q: [u8; 64] = narrowed(quorums);
@@ -201,16 +197,12 @@ pub fn scans_differ(stations: &[u8], serials: &[u32], n: usize) -> bool
 }
 
 // The tables pass opening, intake scans differ from one another, marks name only existing nodes.
-#[tactic(auto, using(crate::proofs::Counted::counted))]
+#[tactic(auto, using(crate::proofs::Counted::counted, crate::proofs::Counted::house_are))]
 pub fn house_ok(h: House) -> bool
     requires { counts h ≡ true }
     ensures { result ≡ house_form (memory h [] [] []) }
 {
-    if tables_number(h) != 0 {
-        return false;
-    }
-    if !scans_differ(&h.stations, &h.serials, h.tubes as usize) {
-        return false;
-    }
-    (h.marks as u16) < (1u16 << h.nodes)
+    tables_number(h) == 0
+        && scans_differ(&h.stations, &h.serials, h.tubes as usize)
+        && (h.marks as u16) < (1u16 << h.nodes)
 }
