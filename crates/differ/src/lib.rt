@@ -62,6 +62,7 @@ pub fn first_slot(board: &[u8], k: usize) -> usize
 }
 
 // From slot h on, the first that is empty; past all slots if a slot has an equal message.
+// That case stays a number: Probed and the slip equal_let_through, which docs/SLIPS.md names with this function, speak of it.
 pub fn probe(board: &[u8], slots: &[u16], k: usize, h: usize) -> usize
     requires k_bound { (k < 1024) × (40 * k + 40 ≤ length board.now) }
     requires slots_len { (length slots.now ≡ 3073) × ((t : ℕ) → get_or slots.now t 0 ≤ k) }

@@ -72,7 +72,7 @@ pub fn lacking_ok(m: Message) -> bool
 pub fn tube_in(tube: u8, tubes: u8) -> bool
     ensures { result ≡ tube_in tube && leb tube tubes }
 {
-    ((1 <= tube) & (tube <= 64)) & (tube <= tubes)
+    (1..=64).contains(&tube) & (tube <= tubes)
 }
 
 // The fields that the kind has are in their limits, and the tubes on intake.
@@ -80,6 +80,7 @@ pub fn tube_in(tube: u8, tubes: u8) -> bool
 pub fn held_ok(nodes: u8, rows: u8, tubes: u8, m: Message) -> bool
     ensures { result ≡ held nodes rows tubes m }
 {
+    // As (1..=rows).contains(&m.row) the proof didn't close: the search gave up at the match beside it.
     let place = ((1 <= m.row) & (m.row <= rows)) & (m.bal <= 15);
     let fields = match m.kind {
         1 => true,
