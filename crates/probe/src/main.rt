@@ -173,6 +173,7 @@ fn run<R: Read, W: Write>(
     book: &mut [u8],
     waiting: &mut [u8],
 ) -> io::Result<()> {
+    // a loop with no bound would need the handle Wait, which no crate here has
     for _ in 0..u64::MAX {
         if !one_frame(
             input, output, quorums, weaks, board, cells, heard, book, waiting,

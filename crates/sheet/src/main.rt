@@ -85,6 +85,7 @@ fn read_all<R: Read, W: Write>(
     requires in_bounds_2 { 68 ≤ length out.old }
 {
     let mut s = session::begin();
+    // a loop with no bound would need the handle Wait, which no crate here has
     for _ in 0..u64::MAX {
         let Some(after) = one_turn(input, output, s, line, board, cells, heard, out)? else {
             return Ok(s);
