@@ -36,6 +36,7 @@ pub fn book_rows(h: rules::House, board: &[u8]) -> Rows
 }
 
 // The line of a row, numbered from 0: its tube, or 0 if the tube stands in an earlier row.
+#[tactic(auto, using(crate::proofs::Found::found_below))]
 fn line(rows: &[u8], i: usize) -> u8
     requires { i < length rows.now }
     ensures { result ≡ line_of rows.now i }
@@ -48,6 +49,7 @@ fn line(rows: &[u8], i: usize) -> u8
 }
 
 // The lines of the rows.
+#[tactic(auto, using(crate::proofs::Lines::lines_next), unfolding(crate::specs::Lines::lines))]
 fn write_lines(rows: &[u8], out: &mut [u8])
     requires { length rows.now ≤ length out.old }
     ensures { out.new ≡ patch out.old 0 (lines rows.now (length rows.now)) }

@@ -45,6 +45,7 @@ fn add_vote(votes: &mut [u8; 1024], board: &[u8], k: usize, row: u8)
 }
 
 // The votes of a row, in one pass over the board.
+#[tactic(auto, using(crate::proofs::Votes::within))]
 pub fn row_votes(h: rules::House, board: &[u8], row: u8) -> [u8; 1024]
     requires { Countable h board.now }
     ensures { Counted (board_of board.now h.count) row result }

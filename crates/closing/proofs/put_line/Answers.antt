@@ -5,10 +5,6 @@ use Rattle.closing.proofs.Writing.{wrote_byte, wrote_on}
 use Rattle.closing.proofs.Fields.{field_more, room_more, field_none}
 use Rattle.closing.proofs.put_line.Goals as goal
 
-pub put_field-end-requires : goal.put_field-end-requires
-put_field-end-requires c =
-    omega (arith, room_more c.args.fields.now c.loop-word.word-index c.loop-word-test.true, c.as_bytes.ensures.len)
-
 pub loop-word-preserved : goal.loop-word-preserved
 loop-word-preserved c =
     let l = c.args.fields.now in

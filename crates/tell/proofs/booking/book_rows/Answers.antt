@@ -1,13 +1,10 @@
 -- The book's rows: all rows passed are agreed, and their tubes stand in order.
-use mathlib.Core.Path.{◌≡◌, refl, sym, ◌∙◌}
+use mathlib.Core.Path.{◌≡◌, sym, ◌∙◌}
 use native.Mathlib.Omega.{arith}
 use lib.ListN.{length-set}
 use Rattle.tell.proofs.Lines.{so_more, ended, halted}
 use Rattle.tell.proofs.booking.book_rows.Goals as goal
 use Rattle.tell.proofs.booking.book_rows.Goals.{in-Unchosen, in-Split}
-
-pub loop-k-init : goal.loop-k-init
-loop-k-init c = record { size = refl; so = λ cells heard i l. absurd (omega arith) }
 
 pub returns-in-loop-k : goal.returns-in-loop-k
 returns-in-loop-k c cells heard =

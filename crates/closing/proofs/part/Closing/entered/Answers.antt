@@ -16,8 +16,8 @@ loop-k-preserved c =
     let e : c.from-count.result ≡ one b = c.from-count.ensures ∙ rw c.held.ensures (byte_one b) in
     record { value = λ ρ s g. omega (arith, e, l.invariant.value ρ s g, entered-next ρ s a.tubes a.reach g.rows l.k (omega arith)); most = omega (arith, e, one-most b) }
 
-pub returns : goal.returns
-returns c =
+pub returns-clause-value : goal.returns-clause-value
+returns-clause-value c ρ s g =
     let a = c.args.self.now in
     let e : c.loop-k.k ≡ a.reach = omega arith in
-    record { value = λ ρ s g. rw e at (c.loop-k.invariant.value ρ s g) ∙ entered_all ρ s a.tubes a.reach g.rows; upper_bound = omega arith }
+    rw e at (c.loop-k.invariant.value ρ s g) ∙ entered_all ρ s a.tubes a.reach g.rows

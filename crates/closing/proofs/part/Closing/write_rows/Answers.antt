@@ -1,5 +1,4 @@
 -- `write_rows` meets its contract: each turn writes one row's line more.
-use mathlib.Core.Path.{◌≡◌}
 use native.Mathlib.Omega.{arith}
 use borrow.Author.Rules.{rules}
 use Rattle.closing.proofs.Writing.{wrote_none, wrote_on}
@@ -13,8 +12,3 @@ pub loop-k-preserved : goal.loop-k-preserved
 loop-k-preserved c =
     let l = c.loop-k in
     record { wrote = λ ρ s g. rw (rows_next ρ s l.k) (wrote_on (omega arith) (l.invariant.wrote ρ s g) (c.put_row-at.ensures.wrote ρ s g)); most = omega (arith, c.put_row-at.ensures.upper_bound) }
-
-pub returns : goal.returns
-returns c =
-    let e : c.loop-k.k ≡ c.args.self.now.reach = omega arith in
-    record { wrote = λ ρ s g. rw e at (c.loop-k.invariant.wrote ρ s g); upper_bound = omega arith }

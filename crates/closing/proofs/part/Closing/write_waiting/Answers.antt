@@ -14,7 +14,7 @@ loop-k-preserved c =
     let l = c.loop-k in
     record { wrote = λ ρ s g. rw (waiting_text_next ρ s l.k) (wrote_on (omega arith) (l.invariant.wrote ρ s g) (c.put_waiting-at.ensures.wrote ρ s g)); most = omega (arith, c.put_waiting-at.ensures.upper_bound) }
 
-pub returns : goal.returns
-returns c =
+pub returns-clause-wrote : goal.returns-clause-wrote
+returns-clause-wrote c ρ s g =
     let e : c.loop-k.k ≡ c.args.self.now.scanned = omega arith in
-    record { wrote = λ ρ s g. rw (waiting_all ρ s c.loop-k.k (e ∙ g.count)) at (c.loop-k.invariant.wrote ρ s g); upper_bound = omega arith }
+    rw (waiting_all ρ s c.loop-k.k (e ∙ g.count)) at (c.loop-k.invariant.wrote ρ s g)
