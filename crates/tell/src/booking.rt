@@ -14,19 +14,23 @@ pub fn book_rows(h: rules::House, board: &[u8]) -> Rows
 {
     let mut tubes = [0; 64];
     for k in 0..h.rows {
-        let stop = match crate::tally::row_outcome(h, board, k + 1) {
-            RowTube::Agreed(t) => {
-                tubes[k as usize] = t.0;
-                continue;
+        match crate::tally::row_outcome(h, board, k + 1) {
+            RowTube::Agreed(t) => tubes[k as usize] = t.0,
+            RowTube::Unchosen => {
+                return Rows {
+                    tubes,
+                    reach: k,
+                    stop: rules::Stop::Unchosen,
+                };
             }
-            RowTube::Unchosen => rules::Stop::Unchosen,
-            RowTube::Split => rules::Stop::Split,
-        };
-        return Rows {
-            tubes,
-            reach: k,
-            stop,
-        };
+            RowTube::Split => {
+                return Rows {
+                    tubes,
+                    reach: k,
+                    stop: rules::Stop::Split,
+                };
+            }
+        }
     }
     Rows {
         tubes,

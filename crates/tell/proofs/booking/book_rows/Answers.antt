@@ -4,15 +4,16 @@ use native.Mathlib.Omega.{arith}
 use lib.ListN.{length-set}
 use Rattle.tell.proofs.Lines.{so_more, ended, halted}
 use Rattle.tell.proofs.booking.book_rows.Goals as goal
-use Rattle.tell.proofs.booking.book_rows.Goals.{in-Unchosen, in-Split}
 
-pub returns-in-loop-k : goal.returns-in-loop-k
-returns-in-loop-k c cells heard =
-    let l = c.loop-k in
-    elim c.match-row_outcome.branch [
-      | in-Unchosen w ↦ let u = sym (w.in-Unchosen.ensures cells heard) in rw w.stop-is (halted _ _ l.tubes l.k (l.invariant.so cells heard) _ (omega arith) (rw u) (rw u))
-      | in-Split w ↦ let u = sym (w.in-Split.ensures cells heard) in rw w.stop-is (halted _ _ l.tubes l.k (l.invariant.so cells heard) _ (omega arith) (rw u) (rw u))
-    ]
+pub returns-in-Unchosen : goal.returns-in-Unchosen
+returns-in-Unchosen c cells heard =
+    let u = sym (c.in-Unchosen.ensures cells heard) in
+    halted _ _ c.loop-k.tubes c.loop-k.k (c.loop-k.invariant.so cells heard) _ (omega arith) (rw u) (rw u)
+
+pub returns-in-Split : goal.returns-in-Split
+returns-in-Split c cells heard =
+    let u = sym (c.in-Split.ensures cells heard) in
+    halted _ _ c.loop-k.tubes c.loop-k.k (c.loop-k.invariant.so cells heard) _ (omega arith) (rw u) (rw u)
 
 pub loop-k-preserved : goal.loop-k-preserved
 loop-k-preserved c =
