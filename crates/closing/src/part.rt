@@ -3,6 +3,7 @@ ghost use Rattle.std.specs.Prelude.{◌≤◌};
 ghost use Rattle.closing.specs.Given.{Rows};
 
 // What the closing lines are made of: the tubes of the book's rows, how many rows it has, whether a split stopped it, and the scan of each tube on intake.
+// The arrays stay apart, as `write_closing` is handed them and its clause `known` speaks of them.
 #[derive(Clone, Copy)]
 pub struct Closing {
     pub tubes: [u8; 64],

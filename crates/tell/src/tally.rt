@@ -44,7 +44,7 @@ fn add_vote(votes: &mut [u8; 1024], board: &[u8], k: usize, row: u8)
     put_vote(votes, board[at + 2], board[at + 4], board[at + 3]);
 }
 
-// The votes of a row, in one pass over the board.
+// The votes of a row, in one pass over the board: one flat array, whose places the clause `Counted` names, in fixed memory.
 #[tactic(auto, using(crate::proofs::Votes::within))]
 pub fn row_votes(h: rules::House, board: &[u8], row: u8) -> [u8; 1024]
     requires { Countable h board.now }
@@ -113,7 +113,7 @@ pub fn row_outcome(h: rules::House, board: &[u8], row: u8) -> RowTube
     ensures { Seen h board.now (λ ρ s. outcome_of result ≡ outcome ρ s row) }
 {
     let votes = row_votes(h, board, row);
-    let list = h.quorums;
+    let list = h.quorums; // a copy first: the check takes no array field straight into a literal
     let quorums = Quorums {
         list,
         listed: h.listed,
