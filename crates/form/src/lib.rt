@@ -4,10 +4,11 @@
 ghost use Rattle.std.specs.Prelude.{◌≡◌, true, ◌&&◌, [], ◌*◌, ◌≤◌, leb, length};
 ghost use Rattle.rules.specs.Tests.{all, all_below, first};
 ghost use Rattle.rules.specs.Words.{tube_in, height_of};
-ghost use Rattle.rules.specs.Lent.{memory, board_of, counts, long, room_of, plain_msg, good_msg, cell_form, board_form, heard_form, in_form};
+ghost use Rattle.rules.specs.Lent.{memory, lent, board_of, counts, long, room_of, plain_msg, good_msg, cell_form, board_form, heard_form, in_form};
+ghost use Rattle.rules.specs.Replies.{number_in};
 ghost use Rattle.form.specs.Form.{paired, cell_formed, bare_of, lacking, held, message_fields, promise_bit, Promises, byte_in, gate_of};
 
-use rules::{Cell, House, Message};
+use rules::{Cell, House, Lent, Message, Refusal};
 
 // ---- pairs and cells
 
@@ -122,10 +123,10 @@ pub fn message_ok(nodes: u8, rows: u8, tubes: u8, m: Message) -> bool
 }
 
 // Every message is plain and good.
-pub fn messages_ok(h: House, board: &[u8]) -> bool
-    requires h_value { counts h ≡ true }
-    requires capacity_in_bounds { 40 * h.capacity ≤ length board.now }
-    ensures { result ≡ all_below (plain_msg board.now) h.count && all (good_msg (room_of h) h.tubes) (board_of board.now h.count) }
+pub fn messages_ok(h: &House, board: &[u8]) -> bool
+    requires h_value { counts h.now ≡ true }
+    requires capacity_in_bounds { 40 * h.now.capacity ≤ length board.now }
+    ensures { result ≡ all_below (plain_msg board.now) h.now.count && all (good_msg (room_of h.now) h.now.tubes) (board_of board.now h.now.count) }
 {
     let n = h.count as usize;
     let mut i: usize = 0;
@@ -140,10 +141,10 @@ pub fn messages_ok(h: House, board: &[u8]) -> bool
 }
 
 // Every message is plain and good, and no two are equal.
-pub fn board_ok(h: House, board: &[u8]) -> bool
-    requires h_value { counts h ≡ true }
-    requires capacity_in_bounds { 40 * h.capacity ≤ length board.now }
-    ensures { result ≡ board_form (memory h board.now [] []) }
+pub fn board_ok(h: &House, board: &[u8]) -> bool
+    requires h_value { counts h.now ≡ true }
+    requires capacity_in_bounds { 40 * h.now.capacity ≤ length board.now }
+    ensures { result ≡ board_form (memory h.now board.now [] []) }
 {
     if !messages_ok(h, board) {
         return false;
@@ -200,11 +201,11 @@ pub fn bytes_in(heard: &[u8], n: usize, these: &[u8]) -> bool
 }
 
 // Heard bits stand only at 1b messages.
-pub fn heard_ok(h: House, board: &[u8], heard: &[u8]) -> bool
-    requires h_value { counts h ≡ true }
-    requires capacity_in_bounds { 40 * h.capacity ≤ length board.now }
-    requires nodes_in_bounds { 128 * h.nodes ≤ length heard.now }
-    ensures { result ≡ heard_form (memory h board.now [] heard.now) }
+pub fn heard_ok(h: &House, board: &[u8], heard: &[u8]) -> bool
+    requires h_value { counts h.now ≡ true }
+    requires capacity_in_bounds { 40 * h.now.capacity ≤ length board.now }
+    requires nodes_in_bounds { 128 * h.now.nodes ≤ length heard.now }
+    ensures { result ≡ heard_form (memory h.now board.now [] heard.now) }
 {
     let n = h.count as usize;
     let p = promises(board, n);
@@ -215,44 +216,47 @@ pub fn heard_ok(h: House, board: &[u8], heard: &[u8]) -> bool
 // ---- the gate
 
 // Memory is in form.
-pub fn form_ok(h: House, board: &[u8], cells: &[u8], heard: &[u8]) -> bool
-    requires h_value { counts h ≡ true }
-    requires heard_value { long (memory h board.now cells.now heard.now) ≡ true }
-    ensures { result ≡ in_form (memory h board.now cells.now heard.now) }
+pub fn form_ok(m: Lent) -> bool
+    requires m_value { counts m.house.now ≡ true }
+    requires long_value { long (lent m) ≡ true }
+    ensures { result ≡ in_form (lent m.entry) }
 {
+    let h = m.house;
     if !tables::house_ok(h) {
         return false;
     }
-    if !board_ok(h, board) {
+    if !board_ok(h, m.board) {
         return false;
     }
     let n = h.nodes as usize;
     let r = h.rows as usize;
-    if !cells_ok(cells, n * r, h.tubes) {
+    if !cells_ok(m.cells, n * r, h.tubes) {
         return false;
     }
-    heard_ok(h, board, heard)
+    heard_ok(h, m.board, m.heard)
 }
 
-// What the gate answers, where a call's own areas are long enough or not: 17 for a count, 5, 17 for the form, or 0.
-pub fn gate_with(h: House, board: &[u8], cells: &[u8], heard: &[u8], areas: bool) -> u8
-    ensures { result ≡ first (gate_of (memory h board.now cells.now heard.now) areas) }
+// What the gate answers, where a call's own areas are long enough or not: 17 for a count, 5, 17 for the form, or nothing.
+pub fn gate_with(m: Lent, areas: bool) -> Result<(), Refusal>
+    ensures { number_in result ≡ first (gate_of (lent m.entry) areas) }
 {
+    let h = m.house;
     if !tables::counts_ok(h) {
-        return 17;
+        return Err(Refusal::NotInForm);
     }
-    if !(tables::lengths_ok(h.nodes, h.rows, h.capacity, board, cells, heard) & areas) {
-        return 5;
+    let long = tables::lengths_ok(h.nodes, h.rows, h.capacity, m.board, m.cells, m.heard);
+    if !(long & areas) {
+        return Err(Refusal::ShortArea);
     }
-    if !form_ok(h, board, cells, heard) {
-        return 17;
+    if !form_ok(m) {
+        return Err(Refusal::NotInForm);
     }
-    0
+    Ok(())
 }
 
 // What the gate answers to a call that has no areas of its own.
-pub fn gate(h: House, board: &[u8], cells: &[u8], heard: &[u8]) -> u8
-    ensures { result ≡ first (gate_of (memory h board.now cells.now heard.now) true) }
+pub fn gate(m: Lent) -> Result<(), Refusal>
+    ensures { number_in result ≡ first (gate_of (lent m.entry) true) }
 {
-    gate_with(h, board, cells, heard, true)
+    gate_with(m, true)
 }

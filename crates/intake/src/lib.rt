@@ -32,12 +32,10 @@ pub fn tube_for(stations: &[u8], serials: &[u32], n: usize, station: u8, serial:
 }
 
 // The same of a house record's intake.
-pub fn tube_of(h: rules::House, station: u8, serial: u32) -> usize
-    requires { h.tubes ≤ 64 }
-    ensures { result ≡ tube_for (intake_of h.stations h.serials h.tubes) station serial }
+pub fn tube_of(h: &rules::House, station: u8, serial: u32) -> usize
+    requires { h.now.tubes ≤ 64 }
+    ensures { result ≡ tube_for (intake_of h.now.stations h.now.serials h.now.tubes) station serial }
 {
-    let a = h.stations;
-    let b = h.serials;
     let n = h.tubes as usize;
-    tube_for(&a, &b, n, station, serial)
+    tube_for(&h.stations, &h.serials, n, station, serial)
 }

@@ -5,9 +5,10 @@ ghost use Rattle.std.specs.Prelude.{◌≡◌, true, ◌&&◌, [], ℕ, ◌^◌,
 ghost use Rattle.rules.specs.Tests.{all, distinct, fit, bit, count, first};
 ghost use Rattle.rules.specs.Words.{nodes_in, faulty_in, rows_in, capacity_in};
 ghost use Rattle.rules.specs.Lent.{memory, counts, tables, room_of, intake_of, same_scan, house_form};
+ghost use Rattle.rules.specs.Replies.{number_in};
 ghost use Rattle.tables.specs.Tables.{lengths, passes, share, with_lists, new_scan};
 
-use rules::House;
+use rules::{House, Refusal};
 
 // ---- counts and lengths
 
@@ -26,8 +27,8 @@ pub fn sizes_in(nodes: u32, faulty: u32, rows: u32, capacity: u32) -> bool
 }
 
 // All counts of the house record are in their limits.
-pub fn counts_ok(h: House) -> bool
-    ensures { result ≡ counts h }
+pub fn counts_ok(h: &House) -> bool
+    ensures { result ≡ counts h.now }
 {
     let sizes = sizes_in(
         h.nodes as u32,
@@ -120,28 +121,26 @@ pub fn all_share(nodes: u8, faulty: u8, sets: &[u8], n: usize) -> bool
     true
 }
 
-// What opening says of a house record's tables: 2, 3, 4, or 0 if they pass.
-pub fn tables_number(h: House) -> u8
-    requires { counts h ≡ true }
-    ensures { result ≡ first (tables (room_of h)) }
+// What opening says of a house record's tables: 2, 3, 4, or nothing if they pass.
+pub fn test_tables(h: &House) -> Result<(), Refusal>
+    requires { counts h.now ≡ true }
+    ensures { number_in result ≡ first (tables (room_of h.now)) }
 {
-    let q = h.quorums;
-    let w = h.weaks;
     let n = h.listed as usize;
     let k = h.backers as usize;
-    if !all_pass(h.nodes, h.faulty, Asked::Present, &q, n) {
-        return 2;
+    if !all_pass(h.nodes, h.faulty, Asked::Present, &h.quorums, n) {
+        return Err(Refusal::AbsentNode);
     }
-    if !all_pass(h.nodes, h.faulty, Asked::Present, &w, k) {
-        return 2;
+    if !all_pass(h.nodes, h.faulty, Asked::Present, &h.weaks, k) {
+        return Err(Refusal::AbsentNode);
     }
-    if !all_share(h.nodes, h.faulty, &q, n) {
-        return 3;
+    if !all_share(h.nodes, h.faulty, &h.quorums, n) {
+        return Err(Refusal::SmallOverlap);
     }
-    if !all_pass(h.nodes, h.faulty, Asked::Strong, &w, k) {
-        return 4;
+    if !all_pass(h.nodes, h.faulty, Asked::Strong, &h.weaks, k) {
+        return Err(Refusal::SmallWeak);
     }
-    0
+    Ok(())
 }
 
 // ---- lists as opening is handed them
@@ -177,27 +176,27 @@ pub fn narrowed(sets: &[u32]) -> [u8; 64]
     out
 }
 
-// What opening says of the tables of a room: 2, 3, 4, or 0 if they pass.
-pub fn lists_number(nodes: u8, faulty: u8, quorums: &[u32], weaks: &[u32]) -> u8
+// What opening says of the tables of a room: 2, 3, 4, or nothing if they pass.
+pub fn test_lists(nodes: u8, faulty: u8, quorums: &[u32], weaks: &[u32]) -> Result<(), Refusal>
     requires nodes_bound { nodes ≤ 8 }
     requires quorums_len_bound { (length quorums.now ≤ 64) × (length weaks.now ≤ 64) }
-    ensures { result ≡ first (tables (with_lists nodes faulty quorums.now weaks.now)) }
+    ensures { number_in result ≡ first (tables (with_lists nodes faulty quorums.now weaks.now)) }
 {
     if !sets_present(nodes, quorums) {
-        return 2;
+        return Err(Refusal::AbsentNode);
     }
     if !sets_present(nodes, weaks) {
-        return 2;
+        return Err(Refusal::AbsentNode);
     }
     let q = narrowed(quorums);
     let w = narrowed(weaks);
     if !all_share(nodes, faulty, &q, quorums.len()) {
-        return 3;
+        return Err(Refusal::SmallOverlap);
     }
     if !all_pass(nodes, faulty, Asked::Strong, &w, weaks.len()) {
-        return 4;
+        return Err(Refusal::SmallWeak);
     }
-    0
+    Ok(())
 }
 
 // ---- intake
@@ -237,17 +236,15 @@ pub fn scans_differ(stations: &[u8], serials: &[u32], n: usize) -> bool
 }
 
 // The tables pass opening, intake scans differ from one another, marks name only existing nodes.
-pub fn house_ok(h: House) -> bool
-    requires { counts h ≡ true }
-    ensures { result ≡ house_form (memory h [] [] []) }
+pub fn house_ok(h: &House) -> bool
+    requires { counts h.now ≡ true }
+    ensures { result ≡ house_form (memory h.now [] [] []) }
 {
-    if tables_number(h) != 0 {
+    let Ok(()) = test_tables(h) else {
         return false;
-    }
-    let a = h.stations;
-    let b = h.serials;
+    };
     let n = h.tubes as usize;
-    if !scans_differ(&a, &b, n) {
+    if !scans_differ(&h.stations, &h.serials, n) {
         return false;
     }
     (h.marks as u16) < (1u16 << h.nodes)

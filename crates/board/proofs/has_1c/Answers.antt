@@ -10,10 +10,10 @@ pub on_board-requires : goal.on_board-requires
 unfolding stored
 on_board-requires c =
     let a = c.args in
-    record { plain = c.requires; own = own-stored (m1c a.row.0 a.ballot.0 a.tube.0) _ tt c.bare-m.ensures }
+    record { plain = c.requires; own = c.offer-m.ensures.own }
 
 pub returns : goal.returns
 unfolding stored
 returns c =
     let a = c.args in
-    c.on_board.ensures ∙ ap (λ (x : Msg). has x (board_of a.board.now a.n)) (means_stored (m1c a.row.0 a.ballot.0 a.tube.0) _ tt c.bare-m.ensures)
+    c.on_board.ensures ∙ ap (λ (x : Msg). has x (board_of a.board.now a.n)) (means_stored (m1c a.bid.row.0 a.bid.ballot.0 a.bid.tube.0) _ tt c.offer-m.ensures.value)

@@ -11,7 +11,7 @@ use Rattle.board.proofs.post.Goals as goal
 pub returns-then-on_board : goal.returns-then-on_board
 returns-then-on_board c x y =
     let a = c.args in
-    post_old (memory a.h a.board.now x y) (meaning a.m) (sym c.on_board.ensures ∙ c.if-on_board.true)
+    post_old (memory a.house.now a.board.now x y) (meaning a.m) (sym c.on_board.ensures ∙ c.if-on_board.true)
 
 pub append-requires : goal.append-requires
 append-requires c =
@@ -22,5 +22,5 @@ pub returns : goal.returns
 returns c x y =
     let a = c.args in
     let n = sym c.on_board.ensures ∙ c.if-on_board.false in
-    let p = c.append.ensures ∙ ap (λ (t : Message). patch a.board.now (40 * a.h.count) (bytes_of t)) (sym c.requires.own) in
-    (λ i. memory (raised a.h (add-one a.h.count i)) (p i) x y) ∙ post_new (memory a.h a.board.now x y) (meaning a.m) n
+    let p = c.append.ensures ∙ ap (λ (t : Message). patch a.board.now (40 * a.house.now.count) (bytes_of t)) (sym c.requires.own) in
+    (λ i. memory (raised a.house.now (add-one a.house.now.count i)) (p i) x y) ∙ post_new (memory a.house.now a.board.now x y) (meaning a.m) n

@@ -17,7 +17,7 @@ loop-i-preserved c =
     let x = c.args in (
       search rules,
       λ a h.
-          let p = is_vote x.kind x.row.0 x.ballot.0 x.tube.0 a in
+          let p = is_vote x.kind x.bid.row.0 x.bid.ballot.0 x.bid.tube.0 a in
           c.with_voter-set.ensures a h
           ∙ (λ j. c.loop-i.invariant.1 a h j || p (meaning (c.msg_at-m.ensures j)))
           ∙ sym (board_more p x.board.now c.loop-i.i),

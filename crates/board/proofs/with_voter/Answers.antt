@@ -14,11 +14,11 @@ returns-then-is_vote c n h =
     let a = c.args in
     ap (λ (z : ℕ). bit z n) c.with_node.ensures ∙ joined-bit a.set a.m.node n h
     ∙ ap (λ (z : Bool). bit a.set n || z)
-    (sym (vote_node a.m a.kind a.row.0 a.ballot.0 a.tube.0 n c.requires ∙ ap (λ (z : Bool). z && eqb n a.m.node) (sym c.is_vote.ensures ∙ c.if-is_vote.true)))
+    (sym (vote_node a.m a.kind a.bid.row.0 a.bid.ballot.0 a.bid.tube.0 n c.requires ∙ ap (λ (z : Bool). z && eqb n a.m.node) (sym c.is_vote.ensures ∙ c.if-is_vote.true)))
 
 pub returns : goal.returns
 returns c n h =
     let a = c.args in
     sym (ap (λ (z : Bool). bit a.set n || z)
-    (vote_node a.m a.kind a.row.0 a.ballot.0 a.tube.0 n c.requires ∙ ap (λ (z : Bool). z && eqb n a.m.node) (sym c.is_vote.ensures ∙ c.if-is_vote.false))
+    (vote_node a.m a.kind a.bid.row.0 a.bid.ballot.0 a.bid.tube.0 n c.requires ∙ ap (λ (z : Bool). z && eqb n a.m.node) (sym c.is_vote.ensures ∙ c.if-is_vote.false))
     ∙ or_no (bit a.set n))

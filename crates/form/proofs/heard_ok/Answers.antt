@@ -8,11 +8,11 @@ use Rattle.form.proofs.heard_ok.Goals as goal
 
 pub promises-p-requires : goal.promises-p-requires
 promises-p-requires c =
-    let parts = board_fits c.args.h c.args.board.now c.requires.h_value c.requires.capacity_in_bounds in record { n_bound = parts.0; n_in_bounds = parts.1 }
+    let parts = board_fits c.args.h.now c.args.board.now c.requires.h_value c.requires.capacity_in_bounds in record { n_bound = parts.0; n_in_bounds = parts.1 }
 
 pub returns : goal.returns
 unfolding heard_form
 returns c =
     let a = c.args in
     c.bytes_in.ensures
-    ∙ heard_formed a.board.now a.heard.now c.promises-p.result a.h.count a.h.nodes c.promises-p.ensures (λ t. omega (arith, c.type_inv.heard t))
+    ∙ heard_formed a.board.now a.heard.now c.promises-p.result a.h.now.count a.h.now.nodes c.promises-p.ensures (λ t. omega (arith, c.type_inv.heard t))

@@ -5,7 +5,7 @@ use Rattle.rules.specs.Tests.{pick, first}
 use Rattle.rules.specs.Lent.{tables}
 use Rattle.tables.specs.Tables.{with_lists}
 use Rattle.tables.proofs.Lists.{set_bytes, lists_are}
-use Rattle.tables.proofs.lists_number.Goals as goal
+use Rattle.tables.proofs.test_lists.Goals as goal
 
 pub returns-then-not-sets_present : goal.returns-then-not-sets_present
 returns-then-not-sets_present c =
