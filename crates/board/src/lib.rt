@@ -133,7 +133,7 @@ pub fn post(house: &mut House, board: &mut [u8], m: Message)
         return;
     }
     append(board, n, m);
-    house.count += 1;
+    house::raise(house);
 }
 
 // A message that has no mbal, mval and pairs: any but a 1b.

@@ -1,9 +1,9 @@
 // The house record where it stands, lent by its owner: thin functions on one field each.
 #![tactic(auto)]
 
-ghost use Rattle.std.specs.Prelude.{◌≡◌, ◌+◌, ◌<◌, ◌^◌};
+ghost use Rattle.std.specs.Prelude.{◌≡◌, suc, ◌+◌, ◌<◌, ◌^◌, set};
 ghost use Rattle.std.specs.Int.Bits.{bit_or};
-ghost use Rattle.rules.specs.Lent.{raised, marked};
+ghost use Rattle.rules.specs.Lent.{raised, marked, house};
 
 use rules::{House, Node};
 
@@ -21,9 +21,7 @@ pub fn mark(h: &mut House, node: Node)
     requires { node.0 < 8 }
     ensures { h.new ≡ marked h.old node.0 }
 {
-    let m = h.marks;
-    let n = with_node(m, node);
-    h.marks = n;
+    h.marks = with_node(h.marks, node);
 }
 
 // The message count goes up by one, where the record stands.
@@ -31,5 +29,16 @@ pub fn raise(h: &mut House)
     requires { h.old.count < 1024 }
     ensures { h.new ≡ raised h.old (h.old.count + 1) }
 {
-    h.count = h.count + 1;
+    h.count += 1;
+}
+
+// One tube more on intake, where the record stands.
+pub fn enter(h: &mut House, station: u8, serial: u32)
+    requires { h.old.tubes < 64 }
+    ensures { h.new ≡ house h.old h.old.count h.old.marks (suc h.old.tubes) (set h.old.stations h.old.tubes station) (set h.old.serials h.old.tubes serial) }
+{
+    let at = h.tubes as usize;
+    h.stations[at] = station;
+    h.serials[at] = serial;
+    h.tubes += 1;
 }

@@ -23,4 +23,4 @@ returns c x y =
     let a = c.args in
     let n = sym c.on_board.ensures ∙ c.if-on_board.false in
     let p = c.append.ensures ∙ ap (λ (t : Message). patch a.board.now (40 * a.house.now.count) (bytes_of t)) (sym c.requires.own) in
-    (λ i. memory (raised a.house.now (add-one a.house.now.count i)) (p i) x y) ∙ post_new (memory a.house.now a.board.now x y) (meaning a.m) n
+    (λ i. memory ((c.raise.ensures ∙ ap (raised a.house.now) (add-one a.house.now.count)) i) (p i) x y) ∙ post_new (memory a.house.now a.board.now x y) (meaning a.m) n
