@@ -156,3 +156,10 @@ is_one_b OneB = refl
 is_one_b OneC = refl
 is_one_b TwoAv = refl
 is_one_b TwoB = refl
+
+pub not_one_b : (k : Kind) → ¬ (k ≡ OneB) → ¬ (kind_byte k ≡ 2)
+not_one_b OneA n = λ e. omega (arith, e)
+not_one_b OneB n = λ e. n refl
+not_one_b OneC n = λ e. omega (arith, e)
+not_one_b TwoAv n = λ e. omega (arith, e)
+not_one_b TwoB n = λ e. omega (arith, e)

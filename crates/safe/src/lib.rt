@@ -103,9 +103,9 @@ pub fn grown(sets: [u8; 16], m: rules::Message, weak: bool, tube: u8) -> [u8; 16
 pub fn is_promise(m: rules::Message, row: rules::Row, ballot: rules::Ballot) -> bool
     ensures { result ≡ promise row.0 ballot.0 m }
 {
-    if board::kind_of(m) != 2 {
+    let rules::Kind::OneB = board::kind_of(m) else {
         return false;
-    }
+    };
     if m.row != row.0 {
         return false;
     }
@@ -116,20 +116,18 @@ pub fn is_promise(m: rules::Message, row: rules::Row, ballot: rules::Ballot) -> 
 pub fn told_more(
     t: Told,
     m: rules::Message,
-    row: rules::Row,
-    ballot: rules::Ballot,
-    tube: rules::Tube,
+    bid: rules::Bid,
 ) -> Told
-    ensures { (l : List Msg) → Tells t row.0 ballot.0 tube.0 l → Tells result row.0 ballot.0 tube.0 (l ++ (meaning m ∷ [])) }
+    ensures { (l : List Msg) → Tells t bid.row.0 bid.ballot.0 bid.tube.0 l → Tells result bid.row.0 bid.ballot.0 bid.tube.0 (l ++ (meaning m ∷ [])) }
 {
-    if !is_promise(m, row, ballot) {
+    if !is_promise(m, bid.row, bid.ballot) {
         return t;
     }
     let none = with_teller(t.none, m, Ask::Empty);
     let before = t.low;
-    let low = grown(before, m, false, tube.0);
+    let low = grown(before, m, false, bid.tube.0);
     let earlier = t.shown;
-    let shown = grown(earlier, m, true, tube.0);
+    let shown = grown(earlier, m, true, bid.tube.0);
     Told {
         none: none,
         low: low,
@@ -155,21 +153,19 @@ pub fn heard_more(
     board: &[u8],
     heard: &[u8],
     k: usize,
-    row: rules::Row,
     node: rules::Node,
-    ballot: rules::Ballot,
-    tube: rules::Tube,
+    bid: rules::Bid,
 ) -> Told
     requires node_bound { (node.0 < 8) × (k < 1024) }
     requires k_in_bounds { 40 * k + 40 ≤ length board.now }
     requires node_in_bounds { 128 * node.0 + 128 ≤ length heard.now }
-    ensures { (l : List Msg) → Tells t row.0 ballot.0 tube.0 l → Tells result row.0 ballot.0 tube.0 (l ++ pick (heard_at heard.now node.0 k) (meaning (msg_at board.now k) ∷ []) []) }
+    ensures { (l : List Msg) → Tells t bid.row.0 bid.ballot.0 bid.tube.0 l → Tells result bid.row.0 bid.ballot.0 bid.tube.0 (l ++ pick (heard_at heard.now node.0 k) (meaning (msg_at board.now k) ∷ []) []) }
 {
     if !heard_at(heard, node, k) {
         return t;
     }
     let m = board::msg_at(board, k);
-    told_more(t, m, row, ballot, tube)
+    told_more(t, m, bid)
 }
 
 // All that a node has heard of the first n messages: one pass.
@@ -177,15 +173,13 @@ pub fn gathered(
     board: &[u8],
     heard: &[u8],
     n: usize,
-    row: rules::Row,
     node: rules::Node,
-    ballot: rules::Ballot,
-    tube: rules::Tube,
+    bid: rules::Bid,
 ) -> Told
     requires node_bound { (node.0 < 8) × (n ≤ 1024) }
     requires n_in_bounds { 40 * n ≤ length board.now }
     requires node_in_bounds { 128 * node.0 + 128 ≤ length heard.now }
-    ensures { Tells result row.0 ballot.0 tube.0 (heard_from (heard_at heard.now node.0) 0 (board_of board.now n)) }
+    ensures { Tells result bid.row.0 bid.ballot.0 bid.tube.0 (heard_from (heard_at heard.now node.0) 0 (board_of board.now n)) }
 {
     let none = [0u8; 16];
     let mut t = Told {
@@ -195,36 +189,34 @@ pub fn gathered(
     };
     let mut i: usize = 0;
     while i < n {
-        t = heard_more(t, board, heard, i, row, node, ballot, tube);
+        t = heard_more(t, board, heard, i, node, bid);
         i += 1;
     }
     t
 }
 
 // (ii) for one c: a full quorum of low ones, and a full weak set of those that show the tube.
-pub fn safe_at(h: rules::House, t: Told, c: u8) -> bool
-    requires nodes_bound { (h.nodes ≤ 8) × ((h.listed ≤ 64) × (h.backers ≤ 64)) }
+pub fn safe_at(h: &rules::House, t: Told, c: u8) -> bool
+    requires nodes_bound { (h.now.nodes ≤ 8) × ((h.now.listed ≤ 64) × (h.now.backers ≤ 64)) }
     requires c_bound { c < 16 }
-    ensures { result ≡ safe_at h t c }
+    ensures { result ≡ safe_at h.now t c }
 {
     let k = c as usize;
     let low = t.low;
     let l = low[k];
-    let quorums = h.quorums;
-    if !sets::some_full(quorums, h.listed, h.nodes, l) {
+    if !sets::some_full(h.quorums, h.listed, h.nodes, l) {
         return false;
     }
     let shown = t.shown;
     let s = shown[k];
-    let weaks = h.weaks;
-    sets::some_full(weaks, h.backers, h.nodes, s)
+    sets::some_full(h.weaks, h.backers, h.nodes, s)
 }
 
 // (ii) for some c below the ballot.
-pub fn safe_below(h: rules::House, t: Told, ballot: rules::Ballot) -> bool
-    requires nodes_bound { (h.nodes ≤ 8) × ((h.listed ≤ 64) × (h.backers ≤ 64)) }
+pub fn safe_below(h: &rules::House, t: Told, ballot: rules::Ballot) -> bool
+    requires nodes_bound { (h.now.nodes ≤ 8) × ((h.now.listed ≤ 64) × (h.now.backers ≤ 64)) }
     requires ballot_bound { ballot.0 ≤ 16 }
-    ensures { result ≡ any_below (safe_at h t) ballot.0 }
+    ensures { result ≡ any_below (safe_at h.now t) ballot.0 }
 {
     let b = ballot.0;
     let mut c: u8 = 0;
@@ -239,22 +231,19 @@ pub fn safe_below(h: rules::House, t: Told, ballot: rules::Ballot) -> bool
 
 // Whether the tube is known safe to the node in this row and ballot.
 pub fn known_safe(
-    h: rules::House,
+    h: &rules::House,
     board: &[u8],
     heard: &[u8],
-    row: rules::Row,
     node: rules::Node,
-    ballot: rules::Ballot,
-    tube: rules::Tube,
+    bid: rules::Bid,
 ) -> bool
-    requires { Ready h board.now heard.now node.0 ballot.0 }
-    ensures { (cells : List ℕ) → result ≡ known (room_of h) (read (memory h board.now cells heard.now)) row.0 node.0 ballot.0 tube.0 }
+    requires { Ready h.now board.now heard.now node.0 bid.ballot.0 }
+    ensures { (cells : List ℕ) → result ≡ known (room_of h.now) (read (memory h.now board.now cells heard.now)) bid.row.0 node.0 bid.ballot.0 bid.tube.0 }
 {
     let n = h.count as usize;
-    let t = gathered(board, heard, n, row, node, ballot, tube);
-    let quorums = h.quorums;
-    if sets::some_full(quorums, h.listed, h.nodes, t.none) {
+    let t = gathered(board, heard, n, node, bid);
+    if sets::some_full(h.quorums, h.listed, h.nodes, t.none) {
         return true;
     }
-    safe_below(h, t, ballot)
+    safe_below(h, t, bid.ballot)
 }

@@ -13,13 +13,13 @@ use Rattle.safe.proofs.gathered.Goals as goal
 pub loop-i-init : goal.loop-i-init
 loop-i-init c =
     let a = c.args in
-    (omega arith, told-start a.row.0 a.ballot.0 a.tube.0)
+    (omega arith, told-start a.bid.row.0 a.bid.ballot.0 a.bid.tube.0)
 
 pub loop-i-preserved : goal.loop-i-preserved
 loop-i-preserved c =
     let a = c.args in (
       omega arith,
-      subst (λ (z : List Msg). Tells c.heard_more-t.result a.row.0 a.ballot.0 a.tube.0 z)
+      subst (λ (z : List Msg). Tells c.heard_more-t.result a.bid.row.0 a.bid.ballot.0 a.bid.tube.0 z)
           (sym (heard_more (heard_at a.heard.now a.node.0) a.board.now c.loop-i.i))
           (c.heard_more-t.ensures (heard_from (heard_at a.heard.now a.node.0) 0 (board_of a.board.now c.loop-i.i)) c.loop-i.invariant.1),
     )
@@ -28,4 +28,4 @@ pub returns : goal.returns
 returns c =
     let a = c.args in
     let e : c.loop-i.i ≡ a.n = omega arith in
-    subst (λ (k : ℕ). Tells c.loop-i.t a.row.0 a.ballot.0 a.tube.0 (heard_from (heard_at a.heard.now a.node.0) 0 (board_of a.board.now k))) e c.loop-i.invariant.1
+    subst (λ (k : ℕ). Tells c.loop-i.t a.bid.row.0 a.bid.ballot.0 a.bid.tube.0 (heard_from (heard_at a.heard.now a.node.0) 0 (board_of a.board.now k))) e c.loop-i.invariant.1

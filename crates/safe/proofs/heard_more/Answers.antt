@@ -14,7 +14,7 @@ returns-then-not-heard_at c l g =
     let a = c.args in
     let q = c.heard_at in
     let e = sym q.ensures ∙ c.if-not-heard_at.true in
-    subst (λ (z : List Msg). Tells a.t a.row.0 a.ballot.0 a.tube.0 z)
+    subst (λ (z : List Msg). Tells a.t a.bid.row.0 a.bid.ballot.0 a.bid.tube.0 z)
     (sym (ap (λ (b : Bool). l ++ pick b (meaning (msg_at a.board.now a.k) ∷ []) []) e ∙ append-nil l)) g
 
 pub returns : goal.returns
@@ -22,6 +22,6 @@ returns c l g =
     let q = c.heard_at in
     let a = c.args in
     let e = sym q.ensures ∙ c.if-not-heard_at.false in
-    subst (λ (z : List Msg). Tells c.told_more.result a.row.0 a.ballot.0 a.tube.0 z)
+    subst (λ (z : List Msg). Tells c.told_more.result a.bid.row.0 a.bid.ballot.0 a.bid.tube.0 z)
     (ap (λ (m : Message). l ++ (meaning m ∷ [])) c.msg_at-m.ensures ∙ sym (ap (λ (b : Bool). l ++ pick b (meaning (msg_at a.board.now a.k) ∷ []) []) e))
     (c.told_more.ensures l g)

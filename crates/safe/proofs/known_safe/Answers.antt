@@ -9,12 +9,12 @@ use Rattle.safe.proofs.known_safe.Goals as goal
 pub returns-then-some_full : goal.returns-then-some_full
 returns-then-some_full c cells =
     let a = c.args in
-    sym (known-sets a.h a.board.now a.heard.now a.row.0 a.node.0 a.ballot.0 a.tube.0 c.gathered-t.result c.requires c.gathered-t.ensures cells
-    ∙ ap (λ (z : Bool). z || any_below (safe_at a.h c.gathered-t.result) a.ballot.0) (sym c.some_full.ensures ∙ c.if-some_full.true))
+    sym (known-sets a.h.now a.board.now a.heard.now a.bid.row.0 a.node.0 a.bid.ballot.0 a.bid.tube.0 c.gathered-t.result c.requires c.gathered-t.ensures cells
+    ∙ ap (λ (z : Bool). z || any_below (safe_at a.h.now c.gathered-t.result) a.bid.ballot.0) (sym c.some_full.ensures ∙ c.if-some_full.true))
 
 pub returns : goal.returns
 returns c cells =
     let a = c.args in
     c.safe_below.ensures
-    ∙ sym (known-sets a.h a.board.now a.heard.now a.row.0 a.node.0 a.ballot.0 a.tube.0 c.gathered-t.result c.requires c.gathered-t.ensures cells
-    ∙ ap (λ (z : Bool). z || any_below (safe_at a.h c.gathered-t.result) a.ballot.0) (sym c.some_full.ensures ∙ c.if-some_full.false))
+    ∙ sym (known-sets a.h.now a.board.now a.heard.now a.bid.row.0 a.node.0 a.bid.ballot.0 a.bid.tube.0 c.gathered-t.result c.requires c.gathered-t.ensures cells
+    ∙ ap (λ (z : Bool). z || any_below (safe_at a.h.now c.gathered-t.result) a.bid.ballot.0) (sym c.some_full.ensures ∙ c.if-some_full.false))

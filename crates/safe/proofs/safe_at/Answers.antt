@@ -11,11 +11,11 @@ pub returns-then-not-some_full : goal.returns-then-not-some_full
 returns-then-not-some_full c =
     let a = c.args in
     let f = c.some_full in
-    sym (ap (λ (z : Bool). z && full (room_of a.h) (room_of a.h).weaks (bit (get_or a.t.shown a.c 0))) (sym f.ensures ∙ c.if-not-some_full.true))
+    sym (ap (λ (z : Bool). z && full (room_of a.h.now) (room_of a.h.now).weaks (bit (get_or a.t.shown a.c 0))) (sym f.ensures ∙ c.if-not-some_full.true))
 
 pub returns : goal.returns
 returns c =
     let f = c.some_full in
     let a = c.args in
     c.some_full-2.ensures
-    ∙ sym (ap (λ (z : Bool). z && full (room_of a.h) (room_of a.h).weaks (bit (get_or a.t.shown a.c 0))) (sym f.ensures ∙ c.if-not-some_full.false))
+    ∙ sym (ap (λ (z : Bool). z && full (room_of a.h.now) (room_of a.h.now).weaks (bit (get_or a.t.shown a.c 0))) (sym f.ensures ∙ c.if-not-some_full.false))

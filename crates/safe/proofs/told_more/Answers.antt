@@ -7,11 +7,11 @@ pub returns-then-not-is_promise : goal.returns-then-not-is_promise
 returns-then-not-is_promise c l g =
     let a = c.args in
     let p = c.is_promise in
-    told_same a.t a.m a.row.0 a.ballot.0 a.tube.0 l g (sym p.ensures ∙ c.if-not-is_promise.true)
+    told_same a.t a.m a.bid.row.0 a.bid.ballot.0 a.bid.tube.0 l g (sym p.ensures ∙ c.if-not-is_promise.true)
 
 pub returns : goal.returns
 returns c l g =
     let p = c.is_promise in
     let a = c.args in
-    told_new a.t a.m a.row.0 a.ballot.0 a.tube.0 l g _ (sym p.ensures ∙ c.if-not-is_promise.false)
+    told_new a.t a.m a.bid.row.0 a.bid.ballot.0 a.bid.tube.0 l g _ (sym p.ensures ∙ c.if-not-is_promise.false)
     c.with_teller-none.ensures c.grown-low.ensures c.grown-shown.ensures

@@ -1,119 +1,55 @@
 -- A 2b: the first three tests, a quorum that relayed the tube, and room for the message.
-use Prim.Native.Nat.{◌≤◌}
-use mathlib.Core.Path.{◌≡◌, refl, sym, ◌∙◌}
-use mathlib.Core.Bool.{Bool, true, false}
-use native.Mathlib.Omega.{arith}
-use Rattle.rules.specs.Tests.{pick}
+use Rattle.std.proofs.Common.{true, false, refl, sym, ◌∙◌, arith}
+use Rattle.std.proofs.lemmas.Result.{err_from_is_err_and}
 use Rattle.rules.specs.Words.{m2b}
-use Rattle.rules.specs.Lent.{Memory, memory, stored, room_of, read}
-use Rattle.rules.specs.Steps.{c2b, fits, relayed}
-use Rattle.rules.proofs.Codec.{At}
-use Rattle.board.proofs.Bytes.{own-stored}
-use Rattle.judge.specs.Judged.{verdict}
+use Rattle.rules.specs.Lent.{lent, stored}
+use Rattle.rules.proofs.Named.{positive}
 use Rattle.judge.proofs.Past.{bounds, plain, fits_means}
-use Rattle.vote.specs.Begun.{begun}
-use Rattle.vote.proofs.Says.{lists_in, begun-inside, early_2b, says_2b}
+use Rattle.vote.proofs.Says.{lists_in, early_2b, says_2b, same_begun, same_2b}
 use Rattle.vote.proofs.judge_2b.Goals as goal
 
-pub returns-then-early-ne0 : goal.returns-then-early-ne0
-returns-then-early-ne0 c =
-    let lent : Memory =
-    let a = c.args in memory a.h a.board.now a.cells.now a.heard.now in
+pub returns-in_err-n-clause-number : goal.returns-in_err-n-clause-number
+returns-in_err-n-clause-number c =
     let a = c.args in
-    early_2b lent a.row a.node a.ballot a.tube _ c.begin-early.ensures c.if-early-ne0.true
-
-pub overflow_cast-r : goal.overflow_cast-r
-overflow_cast-r c =
-    let lent : Memory =
-    let a = c.args in memory a.h a.board.now a.cells.now a.heard.now in
-    let went_on : let a = c.args in begun lent a.row a.node a.ballot a.tube ≡ 0 =
-    sym c.begin-early.ensures ∙ c.if-early-ne0.false in
-    let small : let a = c.args in At (room_of a.h) a.row a.node × (a.ballot ≤ 15) × (a.tube ≤ 64) =
-    let a = c.args in begun-inside lent a.row a.node a.ballot a.tube went_on in
-    omega (arith, (small).0)
-
-pub overflow_cast-n : goal.overflow_cast-n
-overflow_cast-n c =
-    let lent : Memory =
-    let a = c.args in memory a.h a.board.now a.cells.now a.heard.now in
-    let went_on : let a = c.args in begun lent a.row a.node a.ballot a.tube ≡ 0 =
-    sym c.begin-early.ensures ∙ c.if-early-ne0.false in
-    let small : let a = c.args in At (room_of a.h) a.row a.node × (a.ballot ≤ 15) × (a.tube ≤ 64) =
-    let a = c.args in begun-inside lent a.row a.node a.ballot a.tube went_on in
-    omega (arith, (small).0)
-
-pub overflow_cast-b : goal.overflow_cast-b
-overflow_cast-b c =
-    let lent : Memory =
-    let a = c.args in memory a.h a.board.now a.cells.now a.heard.now in
-    let went_on : let a = c.args in begun lent a.row a.node a.ballot a.tube ≡ 0 =
-    sym c.begin-early.ensures ∙ c.if-early-ne0.false in
-    let small : let a = c.args in At (room_of a.h) a.row a.node × (a.ballot ≤ 15) × (a.tube ≤ 64) =
-    let a = c.args in begun-inside lent a.row a.node a.ballot a.tube went_on in
-    omega (arith, (small).1)
-
-pub overflow_cast-v : goal.overflow_cast-v
-overflow_cast-v c =
-    let lent : Memory =
-    let a = c.args in memory a.h a.board.now a.cells.now a.heard.now in
-    let went_on : let a = c.args in begun lent a.row a.node a.ballot a.tube ≡ 0 =
-    sym c.begin-early.ensures ∙ c.if-early-ne0.false in
-    let small : let a = c.args in At (room_of a.h) a.row a.node × (a.ballot ≤ 15) × (a.tube ≤ 64) =
-    let a = c.args in begun-inside lent a.row a.node a.ballot a.tube went_on in
-    omega (arith, (small).2)
+    let p = err_from_is_err_and c.from_residual.result c.from_residual.ensures.1 in
+    rw (p.1, p.2) (early_2b (lent a.m) a.row a.node a.ballot a.tube _ c.in_err-n.ensures.number (positive _))
 
 pub covered-requires : goal.covered-requires
 covered-requires c =
-    let lent : Memory =
-    let a = c.args in memory a.h a.board.now a.cells.now a.heard.now in
-    let p = plain lent c.requires in
-    record { nodes_bound = ((bounds lent c.requires).nodes, (lists_in lent c.requires).0); count_bound = p.count; count_in_bounds = p.long; le_kind = omega arith }
+    let m = lent c.args.m in
+    let p = plain m c.requires in
+    record { nodes_bound = ((bounds m c.requires).nodes, (lists_in m c.requires).0); count_bound = p.count; count_in_bounds = p.long; le_kind = omega arith }
 
-pub returns-then-not-covered : goal.returns-then-not-covered
-returns-then-not-covered c =
-    let lent : Memory =
-    let a = c.args in memory a.h a.board.now a.cells.now a.heard.now in
-    let went_on : let a = c.args in begun lent a.row a.node a.ballot a.tube ≡ 0 =
-    sym c.begin-early.ensures ∙ c.if-early-ne0.false in
-    let a = c.args in
-    says_2b lent a.row a.node a.ballot a.tube went_on false _ (sym c.covered.ensures ∙ c.if-not-covered.true) refl
+pub returns-then-not-covered-clause-number : goal.returns-then-not-covered-clause-number
+returns-then-not-covered-clause-number c =
+    let m = lent c.args.m in
+    let s = c.in_ok-n in
+    let b = s.bid in
+    let e = s.ensures.narrow in
+    let went = same_begun m e ∙ sym s.ensures.number in
+    says_2b m _ _ _ _ went false _ (sym c.covered.ensures ∙ c.if-not-covered.true) refl ∙ same_2b m e
 
-pub fits-requires : goal.fits-requires
+pub fits-requires-clause-plain : goal.fits-requires-clause-plain
+fits-requires-clause-plain c = plain (lent c.args.m) c.requires
+
+pub returns-then-not-fits-clause-number : goal.returns-then-not-fits-clause-number
 unfolding stored
-fits-requires c =
-    let lent : Memory =
-    let a = c.args in memory a.h a.board.now a.cells.now a.heard.now in
-    let a = c.args in
-    record { plain = plain lent c.requires; own = own-stored (m2b a.row a.ballot a.node a.tube) _ tt c.bare-m.ensures }
+returns-then-not-fits-clause-number c =
+    let m = lent c.args.m in
+    let s = c.in_ok-n in
+    let b = s.bid in
+    let e = s.ensures.narrow in
+    let went = same_begun m e ∙ sym s.ensures.number in
+    let room = fits_means m (m2b b.row.0 b.ballot.0 s.n.0 b.tube.0) _ tt c.bare.ensures.value c.fits.ensures in
+    says_2b m _ _ _ _ went true false (sym c.covered.ensures ∙ c.if-not-covered.false) (sym room ∙ c.if-not-fits.true) ∙ same_2b m e
 
-pub returns-then-not-fits : goal.returns-then-not-fits
+pub returns-clause-number : goal.returns-clause-number
 unfolding stored
-returns-then-not-fits c =
-    let lent : Memory =
-    let a = c.args in memory a.h a.board.now a.cells.now a.heard.now in
-    let went_on : let a = c.args in begun lent a.row a.node a.ballot a.tube ≡ 0 =
-    sym c.begin-early.ensures ∙ c.if-early-ne0.false in
-    let relays : let a = c.args in relayed (room_of a.h) (read lent) a.row a.ballot a.tube ≡ true =
-    sym c.covered.ensures ∙ c.if-not-covered.false in
-    let room : let a = c.args in c.fits.result ≡ fits (room_of a.h) (read lent) (m2b a.row a.ballot a.node a.tube) =
-    let a = c.args in fits_means lent (m2b a.row a.ballot a.node a.tube) _ tt c.bare-m.ensures c.fits.ensures in
-    let last : (x : Bool) → c.fits.result ≡ x → let a = c.args in pick x 0 15 ≡ verdict lent (c2b a.row a.node a.ballot a.tube) =
-    λ x e. let a = c.args in
-    says_2b lent a.row a.node a.ballot a.tube went_on true x relays (sym room ∙ e) in
-    last false (c.if-not-fits.true)
-
-pub returns : goal.returns
-unfolding stored
-returns c =
-    let lent : Memory =
-    let a = c.args in memory a.h a.board.now a.cells.now a.heard.now in
-    let went_on : let a = c.args in begun lent a.row a.node a.ballot a.tube ≡ 0 =
-    sym c.begin-early.ensures ∙ c.if-early-ne0.false in
-    let relays : let a = c.args in relayed (room_of a.h) (read lent) a.row a.ballot a.tube ≡ true =
-    sym c.covered.ensures ∙ c.if-not-covered.false in
-    let room : let a = c.args in c.fits.result ≡ fits (room_of a.h) (read lent) (m2b a.row a.ballot a.node a.tube) =
-    let a = c.args in fits_means lent (m2b a.row a.ballot a.node a.tube) _ tt c.bare-m.ensures c.fits.ensures in
-    let last : (x : Bool) → c.fits.result ≡ x → let a = c.args in pick x 0 15 ≡ verdict lent (c2b a.row a.node a.ballot a.tube) =
-    λ x e. let a = c.args in
-    says_2b lent a.row a.node a.ballot a.tube went_on true x relays (sym room ∙ e) in
-    last true (c.if-not-fits.false)
+returns-clause-number c =
+    let m = lent c.args.m in
+    let s = c.in_ok-n in
+    let b = s.bid in
+    let e = s.ensures.narrow in
+    let went = same_begun m e ∙ sym s.ensures.number in
+    let room = fits_means m (m2b b.row.0 b.ballot.0 s.n.0 b.tube.0) _ tt c.bare.ensures.value c.fits.ensures in
+    says_2b m _ _ _ _ went true true (sym c.covered.ensures ∙ c.if-not-covered.false) (sym room ∙ c.if-not-fits.false) ∙ same_2b m e
