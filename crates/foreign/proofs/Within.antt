@@ -1,5 +1,5 @@
 -- What a foreign 1b, 2av or 2b within limits is: numbers that fit their bytes, and how a 1b is stored.
-use mathlib.Core.Path.{◌≡◌, refl, ap, sym, ◌∙◌}
+use mathlib.Core.Path.{◌≡◌, refl, sym}
 use mathlib.Core.Bool.{Bool, true, false, ◌&&◌}
 use mathlib.Core.List.{List}
 use Prim.Native.Nat.{ℕ, suc, ◌≤◌, ◌<◌}
@@ -8,7 +8,9 @@ use lib.Dec.{T, eqb, leb, ltb, leb→le, ltb→lt, eqb→eq}
 use lib.ListN.{length}
 use Rattle.rules.specs.Tests.{pick, all}
 use Rattle.rules.specs.Words.{height_of, bal_in, m2av, Room}
-use Rattle.rules.specs.Lent.{pairs_of, pair_bytes, stored, row_in, pairs_in, limits, scanned}
+use Rattle.rules.specs.declared.House.{House}
+use Rattle.step.specs.declared.OneB.{OneB}
+use Rattle.rules.specs.Lent.{room_of, pairs_of, pair_bytes, stored, row_in, pairs_in, limits, scanned}
 use Rattle.rules.specs.Steps.{p1b, posted}
 use Rattle.rules.specs.Replies.{pairs_plain, post_in}
 use Rattle.rules.specs.declared.Message.{Message}
@@ -45,14 +47,10 @@ parts ρ r b n x y k l = go (row_in ρ r && bal_in b) (ltb n ρ.nodes) (leb (hei
     go true false d e f g = refl
     go false c d e f g = refl
 
-pub judged_1b : (ρ : Room) (r b n x y k : ℕ) (l : List ℕ) (a h v : Bool) → ((row_in ρ r && bal_in b) && ltb n ρ.nodes) ≡ a → leb (height_of x) 16 ≡ h → leb y 64 ≡ v
-    → ((a && (h && v)) && (pairs_in (pairs_of k l) && pairs_plain k l)) ≡ post_in ρ (p1b r b n x y k l)
-judged_1b ρ r b n x y k l a h v e f g = sym (parts ρ r b n x y k l ∙ (λ i. (e i && (f i && g i)) && (pairs_in (pairs_of k l) && pairs_plain k l)))
-
 -- test 7 for a 1b
-pub tubes_as : (t r b n x y k : ℕ) (l : List ℕ) (z : Bool) → leb y t ≡ z → (z && all (passes (Scanned t)) (pairs_of k l)) ≡ scanned t (posted (p1b r b n x y k l))
+pub tubes_as : (t r b n x y k : ℕ) (l : List ℕ) → scanned t (posted (p1b r b n x y k l)) ≡ leb y t && all (passes (Scanned t)) (pairs_of k l)
 unfolding scanned
-tubes_as t r b n x y k l z e = sym (ap (λ (u : Bool). u && all (passes (Scanned t)) (pairs_of k l)) e)
+tubes_as t r b n x y k l = refl
 
 pub record Within (ρ : Room) (r b n x y k : ℕ) (l : List ℕ) : Type 0 where
   pub row : r ≤ ρ.rows
@@ -83,6 +81,11 @@ within ρ r b n x y k l e t =
       bytes = in_bytes l k e p;
       plain = eqs_means l (pair_bytes (pairs_of k l)) (and_r (pairs_in (pairs_of k l)) (pairs_plain k l) p);
     }
+
+-- the same of a 1b as it is handed over
+pub within_1b : (h : House) (p : OneB) (l : List ℕ) → length l ≡ 32 → T (post_in (room_of h) (p1b p.row p.ballot p.node p.mbal p.mval p.count l))
+    → Within (room_of h) p.row p.ballot p.node p.mbal p.mval p.count l
+within_1b h p l = within (room_of h) p.row p.ballot p.node p.mbal p.mval p.count l
 
 -- its numbers as they stand
 abbrev pub carried : ℕ → ℕ → ℕ → ℕ → ℕ → ℕ → List ℕ → Message

@@ -14,80 +14,47 @@ use step::OneB;
 pub fn all_bytes(pairs: [u32; 32]) -> bool
     ensures { result ≡ all byte pairs }
 {
-    let mut i: usize = 0;
-    while i < 32 {
-        if pairs[i] > 255 {
-            return false;
-        }
-        i += 1;
-    }
-    true
-}
-
-// The same numbers as bytes.
-pub fn narrowed(pairs: [u32; 32]) -> [u8; 32]
-    requires { T (all byte pairs) }
-    ensures { result ≡ pairs }
-{
-    let mut out = [0u8; 32];
-    let mut i: usize = 0;
-    while i < 32 {
-        out[i] = pairs[i] as u8;
-        i += 1;
-    }
-    out
+    pairs.iter().all(|x| *x <= 255)
 }
 
 // A 1b's mbal: none or a ballot.
 pub fn height_in(mbal: u32) -> bool
     ensures { result ≡ leb (height_of mbal) 16 }
 {
-    if mbal == 255 {
-        return true;
-    }
-    mbal < 16
+    mbal == 255 || mbal < 16
 }
 
 // Whether the pairs are sixteen at most, within limits and ascending, and every unused one is 0.
+#[tactic(auto, using(crate::proofs::Bytes::not_bytes, crate::proofs::Bytes::each_byte, pairs::proofs::Arrays::over))]
 pub fn pairs_in(pairs: [u32; 32], count: usize) -> bool
     ensures { result ≡ pairs_in (pairs_of count pairs) && pairs_plain count pairs }
 {
-    if count > 16 {
-        return false;
-    }
-    if !all_bytes(pairs) {
-        return false;
-    }
-    let bytes = narrowed(pairs);
-    pairs::pairs_in(bytes, count as u8)
+    count <= 16 && all_bytes(pairs) && pairs::pairs_in(tables::narrowed(&pairs), count as u8)
 }
 
 // Every field within its limits.
+#[tactic(auto, using(crate::proofs::Within::parts))]
 pub fn fields_1b(h: House, p: OneB, pairs: [u32; 32]) -> bool
     ensures { result ≡ post_in (room_of h) (p1b p.row p.ballot p.node p.mbal p.mval p.count pairs) }
 {
-    if !judge::limits::promise_in(h, p.row, p.ballot, p.node) {
-        return false;
-    }
-    if !height_in(p.mbal) {
-        return false;
-    }
-    if p.mval > 64 {
-        return false;
-    }
-    pairs_in(pairs, p.count)
+    judge::limits::promise_in(h, p.row, p.ballot, p.node)
+        && height_in(p.mbal)
+        && p.mval <= 64
+        && pairs_in(pairs, p.count)
 }
 
 // Its mval and the tubes of its pairs are on intake.
+#[tactic(auto, using(crate::proofs::Within::tubes_as))]
 pub fn tubes_1b(h: House, p: OneB, pairs: [u32; 32]) -> bool
     requires { T (post_in (room_of h) (p1b p.row p.ballot p.node p.mbal p.mval p.count pairs)) }
     ensures { result ≡ scanned h.tubes (posted (p1b p.row p.ballot p.node p.mbal p.mval p.count pairs)) }
 {
-    if !judge::limits::on_intake(h, p.mval) {
-        return false;
-    }
-    let bytes = narrowed(pairs);
-    pairs::each(bytes, p.count as u8, pairs::Ask::Scanned(h.tubes))
+    judge::limits::on_intake(h, p.mval)
+        && pairs::each(
+            tables::narrowed(&pairs),
+            p.count as u8,
+            pairs::Ask::Scanned(h.tubes),
+        )
 }
 
 // The message within limits, as it is stored.
@@ -95,7 +62,6 @@ pub fn message_1b(h: House, p: OneB, pairs: [u32; 32]) -> Message
     requires { T (post_in (room_of h) (p1b p.row p.ballot p.node p.mbal p.mval p.count pairs)) }
     ensures { result ≡ stored (posted (p1b p.row p.ballot p.node p.mbal p.mval p.count pairs)) }
 {
-    let bytes = narrowed(pairs);
     Message {
         kind: 2,
         row: p.row as u8,
@@ -105,6 +71,6 @@ pub fn message_1b(h: House, p: OneB, pairs: [u32; 32]) -> Message
         mbal: p.mbal as u8,
         mval: p.mval as u8,
         count: p.count as u8,
-        pairs: bytes,
+        pairs: tables::narrowed(&pairs),
     }
 }

@@ -5,11 +5,11 @@ use Rattle.open.proofs.room.house_of.Goals as goal
 
 pub narrowed-q-requires : goal.narrowed-q-requires
 narrowed-q-requires c =
-    record { sets_len_bound = (sizes c.requires).quorums; by_index = bytes c.requires c.args.quorums.now c.requires.quorums }
+    (omega arith, ((sizes c.requires).quorums, bytes c.requires c.args.quorums.now c.requires.quorums))
 
 pub narrowed-w-requires : goal.narrowed-w-requires
 narrowed-w-requires c =
-    record { sets_len_bound = (sizes c.requires).weaks; by_index = bytes c.requires c.args.weaks.now c.requires.weaks }
+    (omega arith, ((sizes c.requires).weaks, bytes c.requires c.args.weaks.now c.requires.weaks))
 
 pub overflow_cast-result : goal.overflow_cast-result
 overflow_cast-result c = let z = sizes c.requires in omega arith
