@@ -46,9 +46,9 @@ fn add_vote(votes: &mut [u8; 1024], board: &[u8], k: usize, row: u8)
 
 // The votes of a row, in one pass over the board: one flat array, whose places the clause `Counted` names, in fixed memory.
 #[tactic(auto, using(crate::proofs::Votes::within))]
-pub fn row_votes(h: rules::House, board: &[u8], row: u8) -> [u8; 1024]
-    requires { Countable h board.now }
-    ensures { Counted (board_of board.now h.count) row result }
+pub fn row_votes(h: &rules::House, board: &[u8], row: u8) -> [u8; 1024]
+    requires { Countable h.now board.now }
+    ensures { Counted (board_of board.now h.now.count) row result }
 {
     let mut votes = [0; 1024];
     for k in 0..h.count as usize {
@@ -108,9 +108,9 @@ impl Quorums {
 }
 
 // What a row came to.
-pub fn row_outcome(h: rules::House, board: &[u8], row: u8) -> RowTube
-    requires { Countable h board.now }
-    ensures { Seen h board.now (λ ρ s. outcome_of result ≡ outcome ρ s row) }
+pub fn row_outcome(h: &rules::House, board: &[u8], row: u8) -> RowTube
+    requires { Countable h.now board.now }
+    ensures { Seen h.now board.now (λ ρ s. outcome_of result ≡ outcome ρ s row) }
 {
     let votes = row_votes(h, board, row);
     let list = h.quorums; // a copy first: the check takes no array field straight into a literal

@@ -5,12 +5,12 @@ use Rattle.tell.proofs.tally.row_outcome.Goals as goal
 
 pub returns-in_default : goal.returns-in_default
 returns-in_default c cells heard =
-    sym (is_unchosen c.args.h c.args.board.now cells heard c.row_votes-votes.result c.args.row c.requires c.row_votes-votes.ensures c.in_default.ensures)
+    sym (is_unchosen c.args.h.now c.args.board.now cells heard c.row_votes-votes.result c.args.row c.requires c.row_votes-votes.ensures c.in_default.ensures)
 
 pub returns-in-None : goal.returns-in-None
 returns-in-None c cells heard =
-    sym (is_agreed_row c.args.h c.args.board.now cells heard c.row_votes-votes.result c.args.row c.requires c.row_votes-votes.ensures c.in-Some.v c.in-Some.ensures c.in-None.ensures)
+    sym (is_agreed_row c.args.h.now c.args.board.now cells heard c.row_votes-votes.result c.args.row c.requires c.row_votes-votes.ensures c.in-Some.v c.in-Some.ensures c.in-None.ensures)
 
 pub returns-in-Some-next_chosen : goal.returns-in-Some-next_chosen
 returns-in-Some-next_chosen c cells heard =
-    sym (is_split_row c.args.h c.args.board.now cells heard c.row_votes-votes.result c.args.row c.requires c.row_votes-votes.ensures c.in-Some.v c.in-Some.ensures _ c.in-Some-next_chosen.ensures)
+    sym (is_split_row c.args.h.now c.args.board.now cells heard c.row_votes-votes.result c.args.row c.requires c.row_votes-votes.ensures c.in-Some.v c.in-Some.ensures _ c.in-Some-next_chosen.ensures)
