@@ -1,4 +1,4 @@
--- Where a text is parted: the parts between a byte.
+-- Where a text is parted: the parts between the places of a byte.
 use Rattle.std.specs.Prelude.{List, [], ◌∷◌, ℕ, eqb}
 use Rattle.rules.specs.Tests.{pick}
 
