@@ -3,10 +3,10 @@ ghost use Rattle.rules.specs.Lent.{memory};
 ghost use Rattle.rules.specs.Steps.{c2av, c2b};
 ghost use Rattle.rules.specs.Replies.{answer_of, Did};
 
-use rules::{Ballot, House, Node, Reply, Row, Tube};
+use rules::{House, Lent, Refusal, Reply};
 
 pub fn send_2av(
-    house: House,
+    house: &mut House,
     board: &mut [u8],
     cells: &mut [u8],
     heard: &[u8],
@@ -14,30 +14,18 @@ pub fn send_2av(
     node: u32,
     ballot: u32,
     tube: u32,
-) -> crate::Outcome
-    ensures { Did (memory house board.old cells.old heard.now) (c2av row node ballot tube) (answer_of result.reply) (memory result.house board.new cells.new heard.now) }
+) -> Result<Reply, Refusal>
+    ensures { Did (memory house.old board.old cells.old heard.now) (c2av row node ballot tube) (answer_of result) (memory house.new board.new cells.new heard.now) }
 {
-    let found = form::gate(house, board, cells, heard);
-    if found != 0 {
-        return crate::refused(house, found);
-    }
-    let k = vote::judge_2av(house, board, cells, heard, row, node, ballot, tube);
-    if k != 0 {
-        return crate::refused(house, k);
-    }
-    let r = Row(row as u8);
-    let n = Node(node as u8);
-    let b = Ballot(ballot as u8);
-    let v = Tube(tube as u8);
-    let h = vote::act_2av(house, board, cells, heard, r, n, b, v);
-    crate::Outcome {
-        reply: Reply::Done,
-        house: h,
-    }
+    let m = Lent { house, board, cells, heard };
+    form::gate(m)?;
+    let (n, bid) = vote::judge_2av(m, row, node, ballot, tube)?;
+    vote::act_2av(house, board, cells, heard, n, bid);
+    Ok(Reply::Done)
 }
 
 pub fn send_2b(
-    house: House,
+    house: &mut House,
     board: &mut [u8],
     cells: &mut [u8],
     heard: &[u8],
@@ -45,24 +33,12 @@ pub fn send_2b(
     node: u32,
     ballot: u32,
     tube: u32,
-) -> crate::Outcome
-    ensures { Did (memory house board.old cells.old heard.now) (c2b row node ballot tube) (answer_of result.reply) (memory result.house board.new cells.new heard.now) }
+) -> Result<Reply, Refusal>
+    ensures { Did (memory house.old board.old cells.old heard.now) (c2b row node ballot tube) (answer_of result) (memory house.new board.new cells.new heard.now) }
 {
-    let found = form::gate(house, board, cells, heard);
-    if found != 0 {
-        return crate::refused(house, found);
-    }
-    let k = vote::judge_2b(house, board, cells, heard, row, node, ballot, tube);
-    if k != 0 {
-        return crate::refused(house, k);
-    }
-    let r = Row(row as u8);
-    let n = Node(node as u8);
-    let b = Ballot(ballot as u8);
-    let v = Tube(tube as u8);
-    let h = vote::act_2b(house, board, cells, heard, r, n, b, v);
-    crate::Outcome {
-        reply: Reply::Done,
-        house: h,
-    }
+    let m = Lent { house, board, cells, heard };
+    form::gate(m)?;
+    let (n, bid) = vote::judge_2b(m, row, node, ballot, tube)?;
+    vote::act_2b(house, board, cells, heard, n, bid);
+    Ok(Reply::Done)
 }

@@ -1,10 +1,10 @@
 // The gate of every call: counts, lengths and form of lent memory, each part decided by one small function.
 #![tactic(auto)]
 
-ghost use Rattle.std.specs.Prelude.{◌≡◌, true, ◌&&◌, [], ◌*◌, ◌≤◌, leb, length};
+ghost use Rattle.std.specs.Prelude.{◌≡◌, true, ◌&&◌, [], ◌*◌, ◌≤◌, leb, length, IsTrue, OnOk};
 ghost use Rattle.rules.specs.Tests.{all, all_below, first};
 ghost use Rattle.rules.specs.Words.{tube_in, height_of};
-ghost use Rattle.rules.specs.Lent.{memory, lent, board_of, counts, long, room_of, plain_msg, good_msg, cell_form, board_form, heard_form, in_form};
+ghost use Rattle.rules.specs.Lent.{memory, lent, board_of, counts, long, room_of, plain_msg, good_msg, cell_form, board_form, heard_form, in_form, Typed};
 ghost use Rattle.rules.specs.Replies.{number_in};
 ghost use Rattle.form.specs.Form.{paired, cell_formed, bare_of, lacking, held, message_fields, promise_bit, Promises, byte_in, gate_of};
 
@@ -171,7 +171,8 @@ pub fn heard_ok(h: &House, board: &[u8], heard: &[u8]) -> bool
 pub fn form_ok(m: Lent) -> bool
     requires m_value { counts m.house.now ≡ true }
     requires long_value { long (lent m) ≡ true }
-    ensures { result ≡ in_form (lent m.entry) }
+    ensures value { result ≡ in_form (lent m.entry) }
+    ensures typed { IsTrue result → Typed m.entry.house.now }
 {
     let h = m.house;
     tables::house_ok(h)
@@ -183,7 +184,8 @@ pub fn form_ok(m: Lent) -> bool
 // What the gate answers, where a call's own areas are long enough or not: 17 for a count, 5, 17 for the form, or nothing.
 #[tactic(auto, using(crate::proofs::Says::long_are))]
 pub fn gate_with(m: Lent, areas: bool) -> Result<(), Refusal>
-    ensures { number_in result ≡ first (gate_of (lent m.entry) areas) }
+    ensures number { number_in result ≡ first (gate_of (lent m.entry) areas) }
+    ensures typed { OnOk result (Typed m.entry.house.now) }
 {
     let h = m.house;
     if !tables::counts_ok(h) {
@@ -201,7 +203,8 @@ pub fn gate_with(m: Lent, areas: bool) -> Result<(), Refusal>
 
 // What the gate answers to a call that has no areas of its own.
 pub fn gate(m: Lent) -> Result<(), Refusal>
-    ensures { number_in result ≡ first (gate_of (lent m.entry) true) }
+    ensures number { number_in result ≡ first (gate_of (lent m.entry) true) }
+    ensures typed { OnOk result (Typed m.entry.house.now) }
 {
     gate_with(m, true)
 }

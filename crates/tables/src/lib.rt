@@ -1,10 +1,10 @@
 // Counts and lengths of a room, and the form of a house record: its tables, intake and marks.
 #![tactic(auto)]
 
-ghost use Rattle.std.specs.Prelude.{◌≡◌, true, ◌&&◌, [], ℕ, ◌^◌, ◌≤◌, ◌<◌, leb, ltb, length, get_or, take};
+ghost use Rattle.std.specs.Prelude.{◌≡◌, true, ◌&&◌, [], ℕ, ◌^◌, ◌≤◌, ◌<◌, leb, ltb, length, get_or, take, IsTrue};
 ghost use Rattle.rules.specs.Tests.{all, distinct, fit, bit, count, first};
 ghost use Rattle.rules.specs.Words.{nodes_in, faulty_in, rows_in, capacity_in};
-ghost use Rattle.rules.specs.Lent.{memory, counts, tables, room_of, intake_of, same_scan, house_form};
+ghost use Rattle.rules.specs.Lent.{memory, counts, tables, room_of, intake_of, same_scan, house_form, Typed};
 ghost use Rattle.rules.specs.Replies.{number_in};
 ghost use Rattle.tables.specs.Tables.{lengths, passes, share, with_lists, new_scan};
 
@@ -201,7 +201,8 @@ pub fn scans_differ(stations: &[u8], serials: &[u32], n: usize) -> bool
 #[tactic(auto, using(crate::proofs::Counted::counted, crate::proofs::Counted::house_are, rules::proofs::Named::positive))]
 pub fn house_ok(h: &House) -> bool
     requires { counts h.now ≡ true }
-    ensures { result ≡ house_form (memory h.now [] [] []) }
+    ensures value { result ≡ house_form (memory h.now [] [] []) }
+    ensures typed { IsTrue result → Typed h.now }
 {
     test_tables(h).is_ok()
         && scans_differ(&h.stations, &h.serials, h.tubes as usize)

@@ -1,169 +1,53 @@
 -- A 1c, judged and done.
-use mathlib.Core.Path.{◌≡◌, refl, sym, ◌∙◌}
-use Prim.Native.Nat.{◌≤◌}
-use native.Mathlib.Omega.{arith}
-use borrow.Author.Rules.{rules}
-use Rattle.rules.specs.Tests.{first}
-use Rattle.rules.specs.Lent.{Memory, memory, room_of, Typed}
-use Rattle.rules.specs.Steps.{Call, c1c}
-use Rattle.rules.specs.Replies.{fields, gate, reply, tell}
-use Rattle.kept.specs.Kept.{Whole}
-use Rattle.kept.proofs.Ready.{passed}
-use Rattle.rules.proofs.Scan.{holds}
-use Rattle.judge.proofs.Past.{offer_says}
-use Rattle.calls.proofs.Call.{past, at-gate, by_judge, named, refused, done}
+use Rattle.std.proofs.Common.{◌≡◌, refl, ◌∙◌}
+use Rattle.std.proofs.lemmas.Result.{err_from_is_err_and}
+use Rattle.rules.specs.Lent.{memory}
+use Rattle.rules.specs.Steps.{c1c}
+use Rattle.rules.specs.Replies.{reply, after, tell}
+use Rattle.rules.specs.declared.Reply.TheVariants.{Done}
+use Rattle.judge.proofs.Call.{past, at_gate, by_judge, accepted, done}
 use Rattle.calls.proofs.send_1c.Goals as goal
 
-pub refused-requires : goal.refused-requires
-refused-requires c =
-    let lent : Memory =
-    let a = c.args in memory a.house a.board.now a.cells.now a.heard.now in
-    let call : Call =
-    c1c c.args.row c.args.ballot c.args.tube in
-    let stopped : reply lent call ≡ c.gate-found.result =
-    at-gate _ _ _ c.gate-found.ensures c.if-found-ne0.true in
-    let parts = named _ _ _ stopped c.if-found-ne0.true in record { le_k = parts.0; k_bound = parts.1 }
-
-pub returns-then-found-ne0 : goal.returns-then-found-ne0
-returns-then-found-ne0 c =
-    let lent : Memory =
-    let a = c.args in memory a.house a.board.now a.cells.now a.heard.now in
-    let call : Call =
-    c1c c.args.row c.args.ballot c.args.tube in
-    let stopped : reply lent call ≡ c.gate-found.result =
-    at-gate _ _ _ c.gate-found.ensures c.if-found-ne0.true in
-    refused _ _ _ stopped c.if-found-ne0.true c.refused.ensures
-
-pub judge_1c-k-requires : goal.judge_1c-k-requires
-judge_1c-k-requires c =
-    let lent : Memory =
-    let a = c.args in memory a.house a.board.now a.cells.now a.heard.now in
-    let call : Call =
-    c1c c.args.row c.args.ballot c.args.tube in
-    let typed : Typed c.args.house =
-    record { stations = search rules; serials = search rules } in
-    let gated : first (gate lent call) ≡ 0 =
-    sym c.gate-found.ensures ∙ c.if-found-ne0.false in
-    let whole : Whole lent =
-    past lent call typed gated in
-    whole
-
-pub refused-requires-then-k-ne0 : goal.refused-requires-then-k-ne0
-refused-requires-then-k-ne0 c =
-    let lent : Memory =
-    let a = c.args in memory a.house a.board.now a.cells.now a.heard.now in
-    let call : Call =
-    c1c c.args.row c.args.ballot c.args.tube in
-    let gated : first (gate lent call) ≡ 0 =
-    sym c.gate-found.ensures ∙ c.if-found-ne0.false in
-    let judged : reply lent call ≡ c.judge_1c-k.result =
-    by_judge _ _ _ gated c.judge_1c-k.ensures in
-    let parts = named _ _ _ judged c.if-k-ne0.true in record { le_k = parts.0; k_bound = parts.1 }
-
-pub returns-then-k-ne0 : goal.returns-then-k-ne0
-returns-then-k-ne0 c =
-    let lent : Memory =
-    let a = c.args in memory a.house a.board.now a.cells.now a.heard.now in
-    let call : Call =
-    c1c c.args.row c.args.ballot c.args.tube in
-    let gated : first (gate lent call) ≡ 0 =
-    sym c.gate-found.ensures ∙ c.if-found-ne0.false in
-    let judged : reply lent call ≡ c.judge_1c-k.result =
-    by_judge _ _ _ gated c.judge_1c-k.ensures in
-    refused _ _ _ judged c.if-k-ne0.true c.refused-then-k-ne0.ensures
-
-pub overflow_cast-v : goal.overflow_cast-v
-unfolding fields
-overflow_cast-v c =
-    let lent : Memory =
-    let a = c.args in memory a.house a.board.now a.cells.now a.heard.now in
-    let call : Call =
-    c1c c.args.row c.args.ballot c.args.tube in
-    let typed : Typed c.args.house =
-    record { stations = search rules; serials = search rules } in
-    let gated : first (gate lent call) ≡ 0 =
-    sym c.gate-found.ensures ∙ c.if-found-ne0.false in
-    let judged : reply lent call ≡ c.judge_1c-k.result =
-    by_judge _ _ _ gated c.judge_1c-k.ensures in
-    let accepted : reply lent call ≡ 0 =
-    judged ∙ c.if-k-ne0.false in
-    let small : let a = c.args in (a.row ≤ a.house.rows) × (a.ballot ≤ 15) × (a.tube ≤ 64) =
+pub returns-in_err-gate : goal.returns-in_err-gate
+returns-in_err-gate c =
     let a = c.args in
-    let p = passed lent call typed accepted in
-    offer_says (room_of a.house) a.row a.ballot a.tube (holds _ p.fields) in
-    omega (arith, small)
+    let m = memory a.house.now a.board.now a.cells.now a.heard.now in
+    let call = c1c a.row a.ballot a.tube in
+    let p = err_from_is_err_and c.from_residual.result c.from_residual.ensures.1 in
+    rw (p.1, p.2) (at_gate m call _ c.in_err-gate.ensures.number)
 
-pub overflow_cast-row : goal.overflow_cast-row
-unfolding fields
-overflow_cast-row c =
-    let lent : Memory =
-    let a = c.args in memory a.house a.board.now a.cells.now a.heard.now in
-    let call : Call =
-    c1c c.args.row c.args.ballot c.args.tube in
-    let typed : Typed c.args.house =
-    record { stations = search rules; serials = search rules } in
-    let gated : first (gate lent call) ≡ 0 =
-    sym c.gate-found.ensures ∙ c.if-found-ne0.false in
-    let judged : reply lent call ≡ c.judge_1c-k.result =
-    by_judge _ _ _ gated c.judge_1c-k.ensures in
-    let accepted : reply lent call ≡ 0 =
-    judged ∙ c.if-k-ne0.false in
-    let small : let a = c.args in (a.row ≤ a.house.rows) × (a.ballot ≤ 15) × (a.tube ≤ 64) =
+pub judge_1c-requires : goal.judge_1c-requires
+judge_1c-requires c =
     let a = c.args in
-    let p = passed lent call typed accepted in
-    offer_says (room_of a.house) a.row a.ballot a.tube (holds _ p.fields) in
-    omega (arith, small)
+    let m = memory a.house.now a.board.now a.cells.now a.heard.now in
+    let call = c1c a.row a.ballot a.tube in
+    past m call c.in_ok-gate.ensures.typed c.in_ok-gate.ensures.number
 
-pub overflow_cast-ballot : goal.overflow_cast-ballot
-unfolding fields
-overflow_cast-ballot c =
-    let lent : Memory =
-    let a = c.args in memory a.house a.board.now a.cells.now a.heard.now in
-    let call : Call =
-    c1c c.args.row c.args.ballot c.args.tube in
-    let typed : Typed c.args.house =
-    record { stations = search rules; serials = search rules } in
-    let gated : first (gate lent call) ≡ 0 =
-    sym c.gate-found.ensures ∙ c.if-found-ne0.false in
-    let judged : reply lent call ≡ c.judge_1c-k.result =
-    by_judge _ _ _ gated c.judge_1c-k.ensures in
-    let accepted : reply lent call ≡ 0 =
-    judged ∙ c.if-k-ne0.false in
-    let small : let a = c.args in (a.row ≤ a.house.rows) × (a.ballot ≤ 15) × (a.tube ≤ 64) =
+pub returns-in_err-bid : goal.returns-in_err-bid
+returns-in_err-bid c =
     let a = c.args in
-    let p = passed lent call typed accepted in
-    offer_says (room_of a.house) a.row a.ballot a.tube (holds _ p.fields) in
-    omega (arith, small)
+    let m = memory a.house.now a.board.now a.cells.now a.heard.now in
+    let call = c1c a.row a.ballot a.tube in
+    let p = err_from_is_err_and c.from_residual-in_err-bid.result c.from_residual-in_err-bid.ensures.1 in
+    rw (p.1, p.2) (by_judge m call _ c.in_ok-gate.ensures.number c.in_err-bid.ensures.number)
 
-pub act_1c-h-requires : goal.act_1c-h-requires
-act_1c-h-requires c =
-    let lent : Memory =
-    let a = c.args in memory a.house a.board.now a.cells.now a.heard.now in
-    let call : Call =
-    c1c c.args.row c.args.ballot c.args.tube in
-    let typed : Typed c.args.house =
-    record { stations = search rules; serials = search rules } in
-    let gated : first (gate lent call) ≡ 0 =
-    sym c.gate-found.ensures ∙ c.if-found-ne0.false in
-    let whole : Whole lent =
-    past lent call typed gated in
-    let judged : reply lent call ≡ c.judge_1c-k.result =
-    by_judge _ _ _ gated c.judge_1c-k.ensures in
-    let accepted : reply lent call ≡ 0 =
-    judged ∙ c.if-k-ne0.false in
-    record { whole = whole; tube_value = accepted }
+pub act_1c-requires : goal.act_1c-requires
+act_1c-requires c =
+    let a = c.args in
+    let m = memory a.house.now a.board.now a.cells.now a.heard.now in
+    let call = c1c a.row a.ballot a.tube in
+    let s = c.in_ok-bid in
+    let e = s.ensures.narrow in
+    let z = accepted m call c.in_ok-gate.ensures.number s.ensures.number in
+    record { whole = past m call c.in_ok-gate.ensures.typed c.in_ok-gate.ensures.number; tube_value = (λ i. reply m (c1c (e.0 i) (e.1 i) (e.2 i))) ∙ z }
 
 pub returns : goal.returns
 unfolding tell
 returns c =
-    let lent : Memory =
-    let a = c.args in memory a.house a.board.now a.cells.now a.heard.now in
-    let call : Call =
-    c1c c.args.row c.args.ballot c.args.tube in
-    let gated : first (gate lent call) ≡ 0 =
-    sym c.gate-found.ensures ∙ c.if-found-ne0.false in
-    let judged : reply lent call ≡ c.judge_1c-k.result =
-    by_judge _ _ _ gated c.judge_1c-k.ensures in
-    let accepted : reply lent call ≡ 0 =
-    judged ∙ c.if-k-ne0.false in
-    done _ _ accepted refl c.act_1c-h.ensures
+    let a = c.args in
+    let m = memory a.house.now a.board.now a.cells.now a.heard.now in
+    let call = c1c a.row a.ballot a.tube in
+    let s = c.in_ok-bid in
+    let e = s.ensures.narrow in
+    let z = accepted m call c.in_ok-gate.ensures.number s.ensures.number in
+    done m call Done z refl (c.act_1c.ensures ∙ (λ i. after m (c1c (e.0 i) (e.1 i) (e.2 i))))
