@@ -180,24 +180,24 @@ pub enum Reply {
 impl From<Kind> for u8 {
     ghost from_gives = { λ x r. r ≡ kind_byte x };
 
-    fn from(x: Kind) -> u8 {
-        x as u8
+    fn from(kind: Kind) -> u8 {
+        kind as u8
     }
 }
 
 impl From<Refusal> for u8 {
     ghost from_gives = { λ x r. r ≡ number_of x };
 
-    fn from(x: Refusal) -> u8 {
-        x as u8
+    fn from(refusal: Refusal) -> u8 {
+        refusal as u8
     }
 }
 
 impl From<Stop> for u8 {
     ghost from_gives = { λ x r. r ≡ stop_of x };
 
-    fn from(x: Stop) -> u8 {
-        x as u8
+    fn from(stop: Stop) -> u8 {
+        stop as u8
     }
 }
 
