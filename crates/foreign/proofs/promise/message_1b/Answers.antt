@@ -1,74 +1,27 @@
 -- A 1b: numbers within limits fit their bytes, and its pair array is that of the pairs it counts.
-use mathlib.Core.Path.{◌≡◌, ap, ◌∙◌}
-use native.Mathlib.Omega.{arith}
-use borrow.Author.Rules.{rules}
-use lib.ListN.{length}
+use Rattle.std.proofs.Common.{◌≡◌, refl, ap, sym, ◌∙◌, Bool, true, false, ◌&&◌, leb, arith}
+use Rattle.rules.specs.Words.{height_of}
 use Rattle.rules.specs.Lent.{room_of}
-use Rattle.foreign.proofs.Within.{Within, within, carried, stored_1b}
+use Rattle.foreign.proofs.Bytes.{count_in}
+use Rattle.foreign.proofs.Within.{tested, stored_1b}
 use Rattle.foreign.proofs.promise.message_1b.Goals as goal
 
-pub narrowed-bytes-requires : goal.narrowed-bytes-requires
-narrowed-bytes-requires c =
-    let found : let a = c.args in Within (room_of a.h) a.p.row a.p.ballot a.p.node a.p.mbal a.p.mval a.p.count a.pairs =
-    let a = c.args in
-    let len : length a.pairs ≡ 32 = search rules in
-    within (room_of a.h) a.p.row a.p.ballot a.p.node a.p.mbal a.p.mval a.p.count a.pairs len c.requires in
-    (found).bytes
+pub returns-in_err-row : goal.returns-in_err-row
+returns-in_err-row c = rw c.from_residual.ensures (tested _ _ _ _ _ _ _ (room_of c.args.h.now) false _ _ c.in_err-row.ensures refl refl)
 
-pub overflow_cast-result : goal.overflow_cast-result
-overflow_cast-result c =
-    let found : let a = c.args in Within (room_of a.h) a.p.row a.p.ballot a.p.node a.p.mbal a.p.mval a.p.count a.pairs =
-    let a = c.args in
-    let len : length a.pairs ≡ 32 = search rules in
-    within (room_of a.h) a.p.row a.p.ballot a.p.node a.p.mbal a.p.mval a.p.count a.pairs len c.requires in
-    omega (arith, (found).row)
+pub returns-then-not-height_in-p : goal.returns-then-not-height_in-p
+returns-then-not-height_in-p c =
+    tested _ _ _ _ _ _ _ (room_of c.args.h.now) true false _ c.in_ok-row.ensures.0 (rw c.height_in.ensures at c.if-not-height_in-p.true) refl
 
-pub overflow_cast-result-2 : goal.overflow_cast-result-2
-overflow_cast-result-2 c =
-    let found : let a = c.args in Within (room_of a.h) a.p.row a.p.ballot a.p.node a.p.mbal a.p.mval a.p.count a.pairs =
-    let a = c.args in
-    let len : length a.pairs ≡ 32 = search rules in
-    within (room_of a.h) a.p.row a.p.ballot a.p.node a.p.mbal a.p.mval a.p.count a.pairs len c.requires in
-    omega (arith, (found).bal)
+pub returns-in_err-pairs : goal.returns-in_err-pairs
+returns-in_err-pairs c =
+    rw c.from_residual-in_err-pairs.ensures (tested _ _ _ _ _ _ _ (room_of c.args.h.now) true true false c.in_ok-row.ensures.0 (rw c.height_in.ensures at c.if-not-height_in-p.false) c.in_err-pairs.ensures)
 
 pub overflow_cast-result-3 : goal.overflow_cast-result-3
-overflow_cast-result-3 c =
-    let found : let a = c.args in Within (room_of a.h) a.p.row a.p.ballot a.p.node a.p.mbal a.p.mval a.p.count a.pairs =
-    let a = c.args in
-    let len : length a.pairs ≡ 32 = search rules in
-    within (room_of a.h) a.p.row a.p.ballot a.p.node a.p.mbal a.p.mval a.p.count a.pairs len c.requires in
-    omega (arith, (found).node)
-
-pub overflow_cast-result-4 : goal.overflow_cast-result-4
-overflow_cast-result-4 c =
-    let found : let a = c.args in Within (room_of a.h) a.p.row a.p.ballot a.p.node a.p.mbal a.p.mval a.p.count a.pairs =
-    let a = c.args in
-    let len : length a.pairs ≡ 32 = search rules in
-    within (room_of a.h) a.p.row a.p.ballot a.p.node a.p.mbal a.p.mval a.p.count a.pairs len c.requires in
-    omega (arith, (found).mbal)
-
-pub overflow_cast-result-5 : goal.overflow_cast-result-5
-overflow_cast-result-5 c =
-    let found : let a = c.args in Within (room_of a.h) a.p.row a.p.ballot a.p.node a.p.mbal a.p.mval a.p.count a.pairs =
-    let a = c.args in
-    let len : length a.pairs ≡ 32 = search rules in
-    within (room_of a.h) a.p.row a.p.ballot a.p.node a.p.mbal a.p.mval a.p.count a.pairs len c.requires in
-    omega (arith, (found).mval)
-
-pub overflow_cast-result-6 : goal.overflow_cast-result-6
-overflow_cast-result-6 c =
-    let found : let a = c.args in Within (room_of a.h) a.p.row a.p.ballot a.p.node a.p.mbal a.p.mval a.p.count a.pairs =
-    let a = c.args in
-    let len : length a.pairs ≡ 32 = search rules in
-    within (room_of a.h) a.p.row a.p.ballot a.p.node a.p.mbal a.p.mval a.p.count a.pairs len c.requires in
-    omega (arith, (found).count)
+overflow_cast-result-3 c = omega (arith, count_in c.args.pairs c.args.p.count c.in_ok-pairs.ensures.0)
 
 pub returns : goal.returns
 returns c =
-    let found : let a = c.args in Within (room_of a.h) a.p.row a.p.ballot a.p.node a.p.mbal a.p.mval a.p.count a.pairs =
-    let a = c.args in
-    let len : length a.pairs ≡ 32 = search rules in
-    within (room_of a.h) a.p.row a.p.ballot a.p.node a.p.mbal a.p.mval a.p.count a.pairs len c.requires in
-    let a = c.args in
-    ap (carried a.p.row a.p.ballot a.p.node a.p.mbal a.p.mval a.p.count) c.narrowed-bytes.ensures
-    ∙ stored_1b (room_of a.h) a.p.row a.p.ballot a.p.node a.p.mbal a.p.mval a.p.count a.pairs found
+    let e = c.in_ok-row.ensures in
+    let g = c.in_ok-pairs.ensures in
+    (tested _ _ _ _ _ _ _ (room_of c.args.h.now) true true true e.0 (rw c.height_in.ensures at c.if-not-height_in-p.false) g.0, stored_1b _ _ _ _ _ _ _ c.into.ensures e.1 g.1 g.0)
