@@ -30,32 +30,34 @@ first_stops (x ∷ l) k n = go (first_stops l k) x.0 n
     go r true n = r n
     go r false n = refl
 
-module _ (m : Memory) (c : Call) where
+-- ---- a call c on memory m, which is lent to read as l
+
+module _ {l : Memory} (m : Memory) (c : Call) (e : l ≡ m) where
   -- memory past the gate
-  pub past : Typed m.house → 0 ≡ first (gate m c) → Whole m
-  past t e = let z = clear (gate m c) tt (sym e) in record { typed = t; counts = z.0; long = and_l (long m) (areas m.house c) z.1.0; form = z.1.1.0 }
+  pub past : Typed m.house → 0 ≡ first (gate l c) → Whole m
+  past t f = let z = clear (gate m c) tt (ap (λ (l : Memory). first (gate l c)) (sym e) ∙ sym f) in record { typed = t; counts = z.0; long = and_l (long m) (areas m.house c) z.1.0; form = z.1.1.0 }
 
   -- and there the judge's number is the reply
-  judged : {k : ℕ} → 0 ≡ first (gate m c) → k ≡ verdict m c → reply m c ≡ k
+  judged : {k : ℕ} → 0 ≡ first (gate l c) → k ≡ verdict l c → reply m c ≡ k
   unfolding reply verdict
-  judged e f = first_past (gate m c) (rules (room_of m.house) (read m) c) (clear (gate m c) tt (sym e)) ∙ sym f
+  judged f g = ap (λ (l : Memory). reply l c) (sym e) ∙ first_past (gate l c) (rules (room_of l.house) (read l) c) (clear (gate l c) tt (sym f)) ∙ sym g
 
   -- a refusal is the answer, and leaves memory as it was
   refused : (x : Refusal) → reply m c ≡ number_of x → Did m c (answer_of (Err x)) m
   unfolding answer
-  refused x e = let n : ¬ (reply m c ≡ 0) = λ w. positive x (sym e ∙ w) in record { answer = ap bare (sym e) ∙ rw (ne_eqb (reply m c) 0 n); memory = sym (stay.refused m c n) }
+  refused x f = let n : ¬ (reply m c ≡ 0) = λ w. positive x (sym f ∙ w) in record { answer = ap bare (sym f) ∙ rw (ne_eqb (reply m c) 0 n); memory = sym (stay.refused m c n) }
 
-  pub at_gate : (x : Refusal) → number_of x ≡ first (gate m c) → Did m c (answer_of (Err x)) m
+  pub at_gate : (x : Refusal) → number_of x ≡ first (gate l c) → Did m c (answer_of (Err x)) m
   unfolding reply
-  at_gate x e = refused x (first_stops (gate m c) (rules (room_of m.house) (read m) c) (λ z. positive x (e ∙ z)) ∙ sym e)
+  at_gate x f = refused x (ap (λ (l : Memory). reply l c) (sym e) ∙ first_stops (gate l c) (rules (room_of l.house) (read l) c) (λ z. positive x (f ∙ z)) ∙ sym f)
 
-  pub by_judge : (x : Refusal) → 0 ≡ first (gate m c) → number_of x ≡ verdict m c → Did m c (answer_of (Err x)) m
-  by_judge x e f = refused x (judged e f)
+  pub by_judge : (x : Refusal) → 0 ≡ first (gate l c) → number_of x ≡ verdict l c → Did m c (answer_of (Err x)) m
+  by_judge x f g = refused x (judged f g)
 
-  -- an accepted call is answered what it tells
-  pub accepted : 0 ≡ first (gate m c) → 0 ≡ verdict m c → reply m c ≡ 0
-  accepted e f = judged e f
+  pub accepted : 0 ≡ first (gate l c) → 0 ≡ verdict l c → reply m c ≡ 0
+  accepted f g = judged f g
 
-  pub done : (a : Reply) → reply m c ≡ 0 → values_of a ≡ tell (room_of m.house) (read m) c → {n : Memory} → n ≡ after m c → Did m c (answer_of (Ok a)) n
-  unfolding answer
-  done a e f g = record { answer = f ∙ rw (eq-eqb (reply m c) 0 e); memory = g }
+-- an accepted call is answered what it tells
+pub done : (m : Memory) (c : Call) (a : Reply) {n : Memory} → reply m c ≡ 0 → values_of a ≡ tell (room_of m.house) (read m) c → n ≡ after m c → Did m c (answer_of (Ok a)) n
+unfolding answer
+done m c a e f g = record { answer = f ∙ rw (eq-eqb (reply m c) 0 e); memory = g }

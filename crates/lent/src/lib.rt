@@ -20,8 +20,9 @@ pub fn post_in_place(
 ) -> Result<Reply, Refusal>
     ensures { Did (memory house.old board.old cells.now heard.now) (foreign (post_of post pairs)) (answer_of result) (memory house.new board.new cells.now heard.now) }
 {
-    form::gate(Lent { house, board, cells, heard })?;
-    let m = foreign::judge_foreign(Lent { house, board, cells, heard }, post, pairs)?;
+    let lent = Lent::new(house, board, cells, heard);
+    form::gate(lent)?;
+    let m = foreign::judge_foreign(lent, post, pairs)?;
     foreign::act_foreign(house, board, cells, heard, m);
     Ok(Reply::Done)
 }

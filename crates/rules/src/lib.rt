@@ -3,7 +3,7 @@
 
 ghost use Rattle.std.specs.Prelude.{◌≡◌, ◌<◌, IsTrue};
 ghost use Rattle.rules.specs.Words.{fresh};
-ghost use Rattle.rules.specs.Lent.{stored_cell, kind_byte, room_of, row_in};
+ghost use Rattle.rules.specs.Lent.{memory, lent, stored_cell, kind_byte, room_of, row_in};
 ghost use Rattle.rules.specs.Replies.{number_of, stop_of, Named};
 
 // A node number, from 0.
@@ -117,6 +117,15 @@ pub struct Lent<'a> {
     pub board: &'a [u8],
     pub cells: &'a [u8],
     pub heard: &'a [u8],
+}
+
+impl<'a> Lent<'a> {
+    // Memory lent in four parts, each of which may be lent for longer.
+    pub fn new(house: &'a House, board: &'a [u8], cells: &'a [u8], heard: &'a [u8]) -> Self
+        ensures { lent result ≡ memory house.now board.now cells.now heard.now }
+    {
+        Lent { house, board, cells, heard }
+    }
 }
 
 // A tube in a row's ballot: what a 1c offers, a 2av relays and a 2b votes.
