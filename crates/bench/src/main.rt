@@ -2,53 +2,14 @@
 // Standard input has what to do (0 read, 1 call, 2 copy), how often, and a frame whose lists and areas are of that room's lengths.
 #![tactic(auto)]
 
-ghost use Rattle.std.specs.Prelude.{◌+◌, ◌≤◌, length};
-
-use frame::{Asked, Found, Request};
+use frame::{Asked, Request};
 use std::io;
-use std::io::{ErrorKind, Read, Write};
-
-// Fills a list from the input, four bytes an entry; false where the input ends before.
-fn read_list<R: Read>(input: &mut R, list: &mut [u32]) -> io::Result<bool> {
-    let mut i: usize = 0;
-    while i < list.len() {
-        let mut entry = [0u8; 4];
-        if !read_area(input, &mut entry)? {
-            return Ok(false);
-        }
-        list[i] = image::numbers::read_u32(&entry, 0);
-        i += 1;
-    }
-    Ok(true)
-}
-
-// Fills an area from the input; false where the input ends before.
-fn read_area<R: Read>(input: &mut R, area: &mut [u8]) -> io::Result<bool> {
-    match input.read_exact(area) {
-        Ok(()) => Ok(true),
-        Err(e) => {
-            if e.kind() == ErrorKind::UnexpectedEof {
-                Ok(false)
-            } else {
-                Err(e)
-            }
-        }
-    }
-}
-
-fn wide(x: u8) -> u64 {
-    x as u64
-}
+use std::io::{Read, Write};
 
 // A sum and every byte of an area.
 fn add(from: u64, area: &[u8]) -> u64 {
-    let mut sum = from;
-    let mut i: usize = 0;
-    while i < area.len() {
-        sum = std::num::wrapping_add_u64(sum, wide(area[i]));
-        i += 1;
-    }
-    sum
+    area.iter()
+        .fold(from, |sum, byte| sum.wrapping_add(u64::from(*byte)))
 }
 
 // A sum and every lent byte, each read once.
@@ -61,23 +22,10 @@ fn read_once(from: u64, board: &[u8], cells: &[u8], heard: &[u8]) -> u64 {
 // Every lent byte read once, and again.
 fn read_often(times: u32, board: &[u8; 40960], cells: &[u8; 18432], heard: &[u8; 1024]) -> u64 {
     let mut sum: u64 = 0;
-    let mut left = times;
-    while left > 0 {
+    for _ in 0..times {
         sum = read_once(sum, board, cells, heard);
-        left -= 1;
     }
     sum
-}
-
-// The bytes from a place on into an area.
-fn copy(given: &[u8], at: usize, to: &mut [u8])
-    requires { at + length to.old ≤ length given.now }
-{
-    let mut i: usize = 0;
-    while i < to.len() {
-        to[i] = given[at + i];
-        i += 1;
-    }
 }
 
 // The areas as the frame gave them.
@@ -87,9 +35,9 @@ fn renew(
     cells: &mut [u8; 18432],
     heard: &mut [u8; 1024],
 ) {
-    copy(given, 0, board);
-    copy(given, 40960, cells);
-    copy(given, 59392, heard);
+    board.copy_from_slice(&given[..40960]);
+    cells.copy_from_slice(&given[40960..59392]);
+    heard.copy_from_slice(&given[59392..]);
 }
 
 // The copy alone, as often as it is made for calls.
@@ -100,10 +48,8 @@ fn copy_often(
     cells: &mut [u8; 18432],
     heard: &mut [u8; 1024],
 ) -> u64 {
-    let mut left = times;
-    while left > 0 {
+    for _ in 0..times {
         renew(given, board, cells, heard);
-        left -= 1;
     }
     read_once(0, board, cells, heard)
 }
@@ -122,10 +68,8 @@ fn call_once(
     let mut book = [0u8; 64];
     let mut waiting = [0u8; 64];
     renew(given, board, cells, heard);
-    let house = request.house;
-    let pairs = request.pairs;
     let served = frame::serve(
-        house,
+        request.house,
         board,
         cells,
         heard,
@@ -134,10 +78,9 @@ fn call_once(
         quorums,
         weaks,
         call,
-        pairs,
+        request.pairs,
     );
-    let answer = served.answer;
-    wide(answer.number)
+    u64::from(served.answer.number)
 }
 
 // The call, over and over; the answers' numbers added up.
@@ -153,11 +96,9 @@ fn call_often(
     heard: &mut [u8; 1024],
 ) -> u64 {
     let mut sum: u64 = 0;
-    let mut left = times;
-    while left > 0 {
+    for _ in 0..times {
         let number = call_once(request, call, quorums, weaks, given, board, cells, heard);
-        sum = std::num::wrapping_add_u64(sum, number);
-        left -= 1;
+        sum = sum.wrapping_add(number);
     }
     sum
 }
@@ -176,15 +117,25 @@ fn work(
     let mut cells = [0u8; 18432];
     let mut heard = [0u8; 1024];
     renew(given, &mut board, &mut cells, &mut heard);
-    if what == 0 {
-        return read_often(times, &board, &cells, &heard);
-    }
-    if what == 1 {
-        return call_often(
+    match what {
+        0 => read_often(times, &board, &cells, &heard),
+        1 => call_often(
             times, request, call, quorums, weaks, given, &mut board, &mut cells, &mut heard,
-        );
+        ),
+        _ => copy_often(times, given, &mut board, &mut cells, &mut heard),
     }
-    copy_often(times, given, &mut board, &mut cells, &mut heard)
+}
+
+// Fills the lists and the areas from the input.
+fn read_rest<R: Read>(
+    input: &mut R,
+    quorums: &mut [u32],
+    weaks: &mut [u32],
+    given: &mut [u8],
+) -> io::Result<()> {
+    input::read_list(input, quorums)?;
+    input::read_list(input, weaks)?;
+    input.read_exact(given)
 }
 
 // The lists and the areas of the frame whose front was read, and then the work.
@@ -199,13 +150,8 @@ fn rest<R: Read, W: Write>(
     let mut quorums = [0u32; 56];
     let mut weaks = [0u32; 28];
     let mut given = [0u8; 60416];
-    if !read_list(input, &mut quorums)? {
-        return Ok(());
-    }
-    if !read_list(input, &mut weaks)? {
-        return Ok(());
-    }
-    if !read_area(input, &mut given)? {
+    let read = read_rest(input, &mut quorums, &mut weaks, &mut given);
+    if !input::whole(read)? {
         return Ok(());
     }
     let sum = work(what, times, request, call, &quorums, &weaks, &given);
@@ -216,17 +162,16 @@ fn main(rt: HostRuntime) -> io::Result<()> {
     let mut input = rt.stdin();
     let mut output = rt.stdout();
     let mut order = [0u8; 5];
-    if !read_area(&mut input, &mut order)? {
+    if !input::whole(input.read_exact(&mut order))? {
         return Ok(());
     }
     let times = image::numbers::read_u32(&order, 1);
-    let mut front = [0u8; 552];
-    if !read_area(&mut input, &mut front)? {
+    let mut front = [0u8; frame::REQUEST];
+    if !input::whole(input.read_exact(&mut front))? {
         return Ok(());
     }
     let request = frame::reading::request(&front);
-    let arguments = request.arguments;
-    let Found::Call(call) = frame::which::found(request.call, arguments) else {
+    let Some(call) = frame::which::found(request.call, request.arguments) else {
         return Ok(());
     };
     rest(&mut input, &mut output, order[0], times, request, call)

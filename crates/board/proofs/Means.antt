@@ -88,13 +88,16 @@ at_last [] x k h = rw h
 at_last (y ∷ l) x zero h = absurd (omega arith)
 at_last (y ∷ l) x (suc k) h = at_last l x k (omega arith)
 
-pub board_1b : (s : List ℕ) (n k : ℕ) → k < n → is_1b_at (board_of s n) k ≡ is1b (meaning (msg_at s k))
-board_1b s zero k h = absurd (omega arith)
-board_1b s (suc n) k h = go (board_1b s n k) (ℕ_discrete k n)
+at_number : (s : List ℕ) (n k : ℕ) → k < n → is_1b_at (board_of s n) k ≡ is1b (meaning (msg_at s k))
+at_number s zero k h = absurd (omega arith)
+at_number s (suc n) k h = go (at_number s n k) (ℕ_discrete k n)
   where
     go : (k < n → is_1b_at (board_of s n) k ≡ is1b (meaning (msg_at s k))) → Dec (k ≡ n) → is_1b_at (board_of s (suc n)) k ≡ is1b (meaning (msg_at s k))
     go r (yes e) = at_last (board_of s n) (meaning (msg_at s n)) k (e ∙ sym (length_board s n)) ∙ ap (λ (j : ℕ). is1b (meaning (msg_at s j))) (sym e)
     go r (no e) = before_last (board_of s n) (meaning (msg_at s n)) k (omega (arith, length_board s n)) ∙ r (omega arith)
+
+pub board_1b : (s : List ℕ) (n k : ℕ) → k < n → is_1b_at (board_of s n) k ≡ eqb (kind_of (meaning (msg_at s k))) 2
+board_1b s n k h = at_number s n k h ∙ is1b_kind (meaning (msg_at s k))
 
 -- ---- votes
 

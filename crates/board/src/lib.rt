@@ -16,7 +16,6 @@ pub fn decode(s: &[u8]) -> Message
     requires { length s.now ≡ 40 }
     ensures { result ≡ msg_of s.now }
 {
-    let p = cell::pairs_at(s, 8);
     Message {
         kind: s[0],
         row: s[1],
@@ -26,7 +25,7 @@ pub fn decode(s: &[u8]) -> Message
         mbal: s[5],
         mval: s[6],
         count: s[7],
-        pairs: p,
+        pairs: cell::pairs_at(s, 8),
     }
 }
 
@@ -37,8 +36,7 @@ pub fn msg_at(board: &[u8], k: usize) -> Message
     ensures { result ≡ msg_at board.now k }
 {
     let a = 40 * k;
-    let e = a + 40;
-    decode(&board[a..e])
+    decode(&board[a..a + 40])
 }
 
 // A message into the first forty bytes of a slice; the others stay.
@@ -54,8 +52,7 @@ pub fn put_msg(s: &mut [u8], m: Message)
     s[5] = m.mbal;
     s[6] = m.mval;
     s[7] = m.count;
-    let p = m.pairs;
-    cell::put_pairs(s, 8, p);
+    cell::put_pairs(s, 8, m.pairs);
 }
 
 // The part from 40 * n of the lent board is passed on to the message writer.
@@ -64,8 +61,7 @@ pub fn append(board: &mut [u8], n: usize, m: Message)
     requires n_in_bounds { 40 * n + 40 ≤ length board.old }
     ensures { board.new ≡ patch board.old (40 * n) (bytes_of m) }
 {
-    let a = 40 * n;
-    put_msg(&mut board[a..], m);
+    put_msg(&mut board[40 * n..], m);
 }
 
 // Whether two slices hold the same bytes.
@@ -73,14 +69,7 @@ pub fn same_bytes(s: &[u8], t: &[u8]) -> bool
     requires { length s.now ≡ length t.now }
     ensures { result ≡ eqs s.now t.now }
 {
-    let mut i: usize = 0;
-    while i < s.len() {
-        if s[i] != t[i] {
-            return false;
-        }
-        i += 1;
-    }
-    true
+    s == t
 }
 
 // Whether these forty bytes are those of the message numbered k.
@@ -91,23 +80,21 @@ pub fn same_at(board: &[u8], k: usize, b: &[u8]) -> bool
     ensures { result ≡ eqs (window 40 k board.now) b.now }
 {
     let a = 40 * k;
-    let e = a + 40;
-    same_bytes(&board[a..e], b)
+    same_bytes(&board[a..a + 40], b)
 }
 
 // Whether these forty bytes are those of one of the first n messages.
+#[tactic(auto, unfolding(crate::specs::Asked::standing))]
 pub fn stands(board: &[u8], n: usize, b: &[u8]) -> bool
     requires n_bound { n ≤ 1024 }
     requires n_in_bounds { 40 * n ≤ length board.now }
     requires b_len { length b.now ≡ 40 }
     ensures { result ≡ standing board.now n b.now }
 {
-    let mut i: usize = 0;
-    while i < n {
+    for i in 0..n {
         if same_at(board, i, b) {
             return true;
         }
-        i += 1;
     }
     false
 }
@@ -128,7 +115,7 @@ pub fn post(house: &mut House, board: &mut [u8], m: Message)
     requires { Postable house.old board.old m }
     ensures { Posted house.old board.old m house.new board.new }
 {
-    let n = house.count as usize;
+    let n = usize::from(house.count);
     if on_board(board, n, m) {
         return;
     }
@@ -176,8 +163,7 @@ pub fn has_1a(board: &[u8], n: usize, row: Row, ballot: Ballot) -> bool
     requires { Plain board.now n }
     ensures { result ≡ has (m1a row.0 ballot.0) (board_of board.now n) }
 {
-    let m = lead(row, ballot);
-    on_board(board, n, m)
+    on_board(board, n, lead(row, ballot))
 }
 
 // Whether the 1c of this row, ballot and tube is on the board.
@@ -185,8 +171,7 @@ pub fn has_1c(board: &[u8], n: usize, bid: Bid) -> bool
     requires { Plain board.now n }
     ensures { result ≡ has (m1c bid.row.0 bid.ballot.0 bid.tube.0) (board_of board.now n) }
 {
-    let m = offer(bid);
-    on_board(board, n, m)
+    on_board(board, n, offer(bid))
 }
 
 // The kind that a message means.
@@ -203,17 +188,18 @@ pub fn kind_of(m: Message) -> Kind
 }
 
 // Whether the message numbered k is a 1b.
+#[tactic(auto, using(crate::proofs::Means::board_1b, crate::proofs::Means::is_one_b))]
 pub fn is_1b_at(board: &[u8], n: usize, k: usize) -> bool
     requires n_bound { n ≤ 1024 }
     requires n_in_bounds { 40 * n ≤ length board.now }
     requires k_lt_n { k < n }
     ensures { result ≡ is_1b_at (board_of board.now n) k }
 {
-    let m = msg_at(board, k);
-    kind_of(m) == Kind::OneB
+    kind_of(msg_at(board, k)) == Kind::OneB
 }
 
 // Whether a message is a vote of this kind (4 a 2av, 5 a 2b) for this row, ballot and tube, by its own node.
+#[tactic(auto, using(crate::proofs::Means::vote_own))]
 pub fn is_vote(
     m: Message,
     kind: u8,
@@ -222,17 +208,10 @@ pub fn is_vote(
     requires { 4 ≤ kind }
     ensures { result ≡ is_vote kind bid.row.0 bid.ballot.0 bid.tube.0 m.node (meaning m) }
 {
-    let own = u8::from(kind_of(m));
-    if own != kind {
-        return false;
-    }
-    if m.row != bid.row.0 {
-        return false;
-    }
-    if m.bal != bid.ballot.0 {
-        return false;
-    }
-    m.tube == bid.tube.0
+    u8::from(kind_of(m)) == kind
+        && m.row == bid.row.0
+        && m.bal == bid.ballot.0
+        && m.tube == bid.tube.0
 }
 
 // The set with the voter, if the message is such a vote.
@@ -246,9 +225,10 @@ pub fn with_voter(
     ensures { (a : ℕ) → a < 8 → bit result a ≡ bit set a || is_vote kind bid.row.0 bid.ballot.0 bid.tube.0 a (meaning m) }
 {
     if is_vote(m, kind, bid) {
-        return sets::with_node(set, m.node);
+        sets::with_node(set, m.node)
+    } else {
+        set
     }
-    set
 }
 
 // The nodes that have a message of this kind (4 a 2av, 5 a 2b) for this row, ballot and tube on the board.
@@ -264,29 +244,20 @@ pub fn votes(
     ensures { Gathered result (λ a. any (is_vote kind bid.row.0 bid.ballot.0 bid.tube.0 a) (board_of board.now n)) }
 {
     let mut set: u8 = 0;
-    let mut i: usize = 0;
-    while i < n {
-        let m = msg_at(board, i);
-        set = with_voter(set, m, kind, bid);
-        i += 1;
+    for i in 0..n {
+        set = with_voter(set, msg_at(board, i), kind, bid);
     }
     set
 }
 
-// Whether some quorum has such a vote from each of its nodes: a tube relayed (kind 4) or chosen (kind 5) in a ballot.
-pub fn covered(
-    h: &House,
-    board: &[u8],
-    kind: Kind,
-    bid: Bid,
-) -> bool
+// Whether some quorum has such a vote from each of its nodes: a tube relayed (2av) or chosen (2b) in a ballot.
+pub fn covered(h: &House, board: &[u8], kind: Kind, bid: Bid) -> bool
     requires nodes_bound { (h.now.nodes ≤ 8) × (h.now.listed ≤ 64) }
     requires count_bound { h.now.count ≤ 1024 }
     requires count_in_bounds { 40 * h.now.count ≤ length board.now }
     requires le_kind { 4 ≤ kind_byte kind }
     ensures { result ≡ covers (room_of h.now) (room_of h.now).quorums (is_vote (kind_byte kind) bid.row.0 bid.ballot.0 bid.tube.0) (board_of board.now h.now.count) }
 {
-    let n = h.count as usize;
-    let set = votes(board, n, kind.into(), bid);
+    let set = votes(board, usize::from(h.count), kind.into(), bid);
     sets::some_full(h.quorums, h.listed, h.nodes, set)
 }

@@ -10,13 +10,7 @@ pub fn pairs_at(s: &[u8], at: usize) -> [u8; 32]
     requires { at + 32 ≤ length s.now }
     ensures { result ≡ take 32 (drop at s.now) }
 {
-    let mut out = [0u8; 32];
-    let mut i: usize = 0;
-    while i < 32 {
-        out[i] = s[at + i];
-        i += 1;
-    }
-    out
+    <[u8; 32]>::try_from(&s[at..at + 32]).unwrap()
 }
 
 // A cell's part is handed to the reader.
@@ -24,13 +18,12 @@ pub fn decode(s: &[u8]) -> rules::Cell
     requires { length s.now ≡ 36 }
     ensures { result ≡ cell_of s.now }
 {
-    let p = pairs_at(s, 4);
     rules::Cell {
         maxbal: s[0],
         maxvbal: s[1],
         maxvval: s[2],
         count: s[3],
-        pairs: p,
+        pairs: pairs_at(s, 4),
     }
 }
 
@@ -41,8 +34,7 @@ pub fn cell_at(cells: &[u8], k: usize) -> rules::Cell
     ensures { result ≡ cell_at cells.now k }
 {
     let a = 36 * k;
-    let e = a + 36;
-    decode(&cells[a..e])
+    decode(&cells[a..a + 36])
 }
 
 // Thirty-two bytes into a place of a slice.
@@ -50,11 +42,7 @@ pub fn put_pairs(s: &mut [u8], at: usize, p: [u8; 32])
     requires { at + 32 ≤ length s.old }
     ensures { s.new ≡ paste s.old at p 32 }
 {
-    let mut i: usize = 0;
-    while i < 32 {
-        s[at + i] = p[i];
-        i += 1;
-    }
+    s[at..at + 32].copy_from_slice(&p);
 }
 
 // A cell into the first thirty-six bytes of a slice; the others stay.
@@ -66,8 +54,7 @@ pub fn put_cell(s: &mut [u8], c: rules::Cell)
     s[1] = c.maxvbal;
     s[2] = c.maxvval;
     s[3] = c.count;
-    let p = c.pairs;
-    put_pairs(s, 4, p);
+    put_pairs(s, 4, c.pairs);
 }
 
 // A cell into the place numbered k of the lent cells; all the others stay.
@@ -77,8 +64,7 @@ pub fn set_cell(cells: &mut [u8], k: usize, c: rules::Cell)
     ensures { cells.new ≡ patch cells.old (36 * k) (encode c) }
 {
     let a = 36 * k;
-    let e = a + 36;
-    put_cell(&mut cells[a..e], c);
+    put_cell(&mut cells[a..a + 36], c);
 }
 
 // N × R cells, node by node: the number of a node's cell in a row.
@@ -86,7 +72,5 @@ pub fn place(rows: u8, row: rules::Row, node: rules::Node) -> usize
     requires { 1 ≤ row.0 }
     ensures { result ≡ place rows row.0 node.0 }
 {
-    let n = node.0 as usize;
-    let r = row.0 as usize;
-    n * (rows as usize) + (r - 1)
+    usize::from(node.0) * usize::from(rows) + (usize::from(row.0) - 1)
 }

@@ -1,5 +1,6 @@
 pub mod Cases
 pub mod Lines
 pub mod Writing
+pub mod Fields
 pub mod Rows
 pub mod Intake

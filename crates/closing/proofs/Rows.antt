@@ -2,20 +2,22 @@
 use mathlib.Core.Path.{◌≡◌, refl, sym, ap, ◌∙◌}
 use mathlib.Core.Bool.{Bool, true, false, not, ◌||◌}
 use mathlib.Core.List.{List, [], ◌∷◌, ◌++◌, map, append-nil, append_assoc}
-use Prim.Native.Nat.{ℕ, suc, ◌+◌, ◌-◌, ◌≤◌, ◌<◌}
+use Prim.Native.Nat.{ℕ, zero, suc, ◌+◌, ◌-◌, ◌≤◌, ◌<◌}
 use native.Mathlib.Numerals.{add-one}
 use native.Mathlib.Omega.{arith}
 use borrow.Author.Tests.{ne_eqb}
-use lib.Dec.{eqb, eqb_refl}
-use lib.ListN.{length, get_or, length-append}
+use lib.Dec.{eqb}
+use lib.ListN.{length, get_or, take, length-append}
+use mir.Val.{bool_byte}
+use Rattle.std.specs.List.{list_any}
+use Rattle.std.proofs.lemmas.List.Folds.{list_any_more}
 use Rattle.rules.specs.Tests.{pick, any, keep, up_to, one}
 use Rattle.rules.specs.Words.{Room, State}
 use Rattle.rules.specs.Book.{reach, row_tube, void, entry, book_of, stands, waiting_of, stopped}
 use Rattle.rules.specs.Laws.{entered}
-use Rattle.rules.proofs.Lists.{any_same, any_up, any_next, map-append, map_next, keep-next, up_out}
+use Rattle.rules.proofs.Lists.{any_same, any_next, map-append, map_next, keep-next, up_out}
 use Rattle.rules.proofs.Book.{before, row_agreed, book_length}
 use Rattle.rules.proofs.Totals.{entered-append}
-use Rattle.rules.proofs.Scan.{holds}
 use Rattle.closing.specs.Printed.{Line, enters, repeats, waits, splits, totals, line_text, lines_text, row_line, waiting_line, split_line, totals_line, lines_of, closing_of}
 use Rattle.closing.specs.Given.{held_in, Rows, Book, Scans, rows_text, waiting_text}
 use Rattle.closing.proofs.Lines.{row_tube_range}
@@ -29,12 +31,29 @@ module _ (tubes : List ℕ) (t : ℕ) where
       let e : suc k - 1 ≡ k = omega arith in
       rw add-one (any_next (λ r. eqb (get_or tubes (r - 1) 0) t) k ∙ ap (λ (j : ℕ). any (λ r. eqb (get_or tubes (r - 1) 0) t) (up_to k) || eqb (get_or tubes j 0) t) e)
 
-  pub held_here : (k n : ℕ) → k < n → get_or tubes k 0 ≡ t → held_in tubes n t ≡ true
+  -- the library's search finds a tube that stands there
+  pub held_found : (k : ℕ) → k ≤ length tubes → list_any (λ x. eqb x t) (take k tubes) ≡ held_in tubes k t
   unfolding held_in
-  held_here k n h e =
-      let d : suc k - 1 ≡ k = omega arith in
-      holds (any (λ r. eqb (get_or tubes (r - 1) 0) t) (up_to n))
-      ((any_up (λ r. eqb (get_or tubes (r - 1) 0) t) n).1 (suc k, omega arith, h, rw (d, e) (eqb_refl t)))
+  held_found zero h = refl
+  held_found (suc k) h =
+      let r = held_found k (omega arith) in
+      let l : k < length tubes = omega arith in
+      let m = list_any_more (λ x. eqb x t) tubes k 0 l in
+      let n = held_next k in
+      rw add-one at m ∙ ap (λ (b : Bool). b || eqb (get_or tubes k 0) t) r ∙ sym (rw add-one at n)
+
+-- each of the rows has a tube, 1 to 64
+pub tube_range : (tubes : List ℕ) (n k : ℕ) → Rows tubes n → k < n → (1 ≤ get_or tubes k 0) × (get_or tubes k 0 ≤ 64)
+tube_range tubes n k p h = let e : suc k - 1 ≡ k = omega arith in (rw e at (p.low (suc k) (omega arith) h), rw e at (p.high (suc k) (omega arith) h))
+
+-- a Boolean's byte counts one or none
+pub byte_one : (b : Bool) → bool_byte b ≡ one b
+byte_one true = refl
+byte_one false = refl
+
+pub one-most : (b : Bool) → one b ≤ 1
+one-most true = omega arith
+one-most false = omega arith
 
 -- ---- the lines of a list
 

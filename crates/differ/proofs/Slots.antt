@@ -16,7 +16,7 @@ use Rattle.rules.specs.Lent.{window}
 use Rattle.rules.proofs.Codec.{order}
 use Rattle.rules.proofs.Scan.{eqs_means}
 use Rattle.rules.proofs.Each.{each_all, each_stop}
-use Rattle.differ.specs.Differ.{new_message, mix, slot_of, Stands, Other, Table, Probed}
+use Rattle.differ.specs.Differ.{new_message, mix, slot_of, Stands, Table, Probed}
 
 -- ---- where bytes are looked for
 
@@ -98,14 +98,6 @@ module _ (s slots : List ℕ) (k r : ℕ) (t : Table s slots k) (p : Probed s sl
     table_more = record { long = length-set slots r (k + 1) ∙ t.long; low = λ x. low x (ℕ_discrete x r); held = λ j e l a b z. held j e l a b z (ℕ_discrete j k) }
 
 -- ---- a probe
-
--- one slot more
-pub other-more : (s slots : List ℕ) (k h i : ℕ) → ((t : ℕ) → h ≤ t → t < i → Other s slots k t) → Other s slots k i → (t : ℕ) → h ≤ t → t < i + 1 → Other s slots k t
-other-more s slots k h i f o t a b = go (ℕ_discrete t i)
-  where
-    go : Dec (t ≡ i) → Other s slots k t
-    go (yes e) = rw e o
-    go (no e) = f t a (omega arith)
 
 -- a slot's message is equal
 pub equal_there : (s : List ℕ) (k v : ℕ) → 1 ≤ v → v ≤ k → eqs (window 40 (v - 1) s) (window 40 k s) ≡ true → new_message s k ≡ false

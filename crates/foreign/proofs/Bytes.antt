@@ -1,14 +1,12 @@
 -- Pair arrays of numbers of any size: one that passes test 6 holds bytes only.
-use mathlib.Core.Path.{◌≡◌}
+use mathlib.Core.Path.{◌≡◌, refl, ap}
 use mathlib.Core.Bool.{Bool, true, false, ◌&&◌}
 use mathlib.Core.List.{List, [], ◌∷◌}
-use Prim.Native.Nat.{ℕ, zero, suc, ◌+◌, ◌*◌, ◌≤◌, ◌<◌}
-use native.Mathlib.Numerals.{add-one}
+use Prim.Native.Nat.{ℕ, zero, suc, ◌*◌, ◌≤◌, ◌<◌}
 use native.Mathlib.Omega.{arith}
 use lib.Dec.{T, eqb, leb, leb→le, le→leb, eqb→eq}
-use lib.ListN.{length, get_or, take, drop, set}
-use lib.Seq.{take-suc, take-suc-set}
-use Rattle.rules.specs.Tests.{all}
+use lib.ListN.{length, get_or, drop}
+use Rattle.rules.specs.Tests.{all, fit}
 use Rattle.rules.specs.Words.{tube_in, bal_in}
 use Rattle.rules.specs.Lent.{pairs_of, ascend, pairs_in}
 use Rattle.rules.specs.Replies.{pairs_plain}
@@ -22,14 +20,17 @@ use Rattle.pairs.specs.declared.Ask.TheVariants.{Limits}
 use Rattle.pairs.proofs.Arrays.{inside}
 use Rattle.foreign.specs.Bytes.{byte}
 
-pub each_byte : (s : List ℕ) (i : ℕ) → T (all byte s) → i < length s → get_or s i 0 ≤ 255
-each_byte [] i t h = absurd (omega arith)
-each_byte (x ∷ s) zero t h = leb→le x 255 (and_l (byte x) (all byte s) t)
-each_byte (x ∷ s) (suc i) t h = each_byte s i (and_r (byte x) (all byte s) t) (omega arith)
+pub each_byte : (s : List ℕ) → T (all byte s) → (i : ℕ) → get_or s i 0 < 256
+each_byte [] t i = omega arith
+each_byte (x ∷ s) t zero = omega (arith, leb→le x 255 (and_l (byte x) (all byte s) t))
+each_byte (x ∷ s) t (suc i) = each_byte s (and_r (byte x) (all byte s) t) i
 
--- one number more is copied
-pub copied_more : (out s : List ℕ) (i : ℕ) → i < length out → i < length s → take i out ≡ take i s → take (i + 1) (set out i (get_or s i 0)) ≡ take (i + 1) s
-copied_more out s i h k e = rw (add-one, take-suc-set out i (get_or s i 0) h, take-suc s i 0 k, e)
+-- a list that fills its array
+pub fit_whole : (n : ℕ) (l : List ℕ) → length l ≡ n → fit n l ≡ l
+fit_whole zero [] e = refl
+fit_whole zero (x ∷ l) e = absurd (omega arith)
+fit_whole (suc n) [] e = absurd (omega arith)
+fit_whole (suc n) (x ∷ l) e = ap (λ (t : List ℕ). x ∷ t) (fit_whole n l (omega arith))
 
 abbrev zeros : List ℕ → Bool
 zeros s = all (λ x. eqb x 0) s

@@ -1,5 +1,5 @@
 // A foreign 1b: its pair array as bytes, and how it is stored where its fields are within limits.
-ghost use Rattle.std.specs.Prelude.{◌≡◌, ◌&&◌, T, leb};
+ghost use Rattle.std.specs.Prelude.{◌≡◌, ◌&&◌, leb};
 ghost use Rattle.rules.specs.Tests.{all};
 ghost use Rattle.rules.specs.Words.{height_of};
 ghost use Rattle.rules.specs.Lent.{room_of, stored, pairs_of, pairs_in};
@@ -15,51 +15,25 @@ use step::OneB;
 pub fn all_bytes(pairs: [u32; 32]) -> bool
     ensures { result ≡ all byte pairs }
 {
-    let mut i: usize = 0;
-    while i < 32 {
-        if pairs[i] > 255 {
-            return false;
-        }
-        i += 1;
-    }
-    true
-}
-
-// The same numbers as bytes.
-pub fn narrowed(pairs: [u32; 32]) -> [u8; 32]
-    requires { T (all byte pairs) }
-    ensures { result ≡ pairs }
-{
-    let mut out = [0u8; 32];
-    let mut i: usize = 0;
-    while i < 32 {
-        out[i] = pairs[i] as u8;
-        i += 1;
-    }
-    out
+    pairs.iter().all(|x| *x <= 255)
 }
 
 // A 1b's mbal: none or a ballot.
 pub fn height_in(mbal: u32) -> bool
     ensures { result ≡ leb (height_of mbal) 16 }
 {
-    if mbal == 255 {
-        return true;
-    }
-    mbal < 16
+    mbal == 255 || mbal < 16
 }
 
 // The pairs as bytes, where they are sixteen at most, within limits and ascending, and every unused one is 0.
+#[tactic(auto, using(crate::proofs::Bytes::not_bytes, crate::proofs::Bytes::each_byte, crate::proofs::Bytes::fit_whole, pairs::proofs::Arrays::over))]
 pub fn packed(pairs: [u32; 32], count: usize) -> Option<[u8; 32]>
     ensures { Tested (pairs_in (pairs_of count pairs) && pairs_plain count pairs) (λ l. l ≡ pairs) result }
 {
-    if count > 16 {
+    if !(count <= 16 && all_bytes(pairs)) {
         return None;
     }
-    if !all_bytes(pairs) {
-        return None;
-    }
-    let bytes = narrowed(pairs);
+    let bytes = tables::narrowed(&pairs);
     if !pairs::pairs_in(bytes, count as u8) {
         return None;
     }

@@ -1,14 +1,14 @@
 -- A stored cell or message is plain and good: tests on the struct's fields.
 use mathlib.Core.Path.{◌≡◌, refl, ap, sym, ◌∙◌}
-use mathlib.Core.Bool.{Bool, true, false, ◌&&◌, ◌||◌, and-false}
+use mathlib.Core.Bool.{Bool, true, false, ◌&&◌, and-false}
 use mathlib.Core.List.{List, [], ◌++◌}
 use Prim.Native.Nat.{ℕ, zero, suc, ◌+◌, ◌*◌, ◌≤◌}
 use native.Mathlib.Omega.{arith}
 use borrow.Author.Tests.{eq-eqb, ne_eqb}
-use lib.Dec.{T, eqb, leb, ltb, leb→le, eqb-suc-zero, leb-suc-suc}
+use lib.Dec.{T, eqb, leb, ltb, leb→le, eqb-suc-zero}
 use lib.ListN.{length, get_or, take, drop, length-drop, take-append-drop}
 use lib.Seq.{take_all}
-use Rattle.rules.specs.Tests.{pick, all, all_below, eqs}
+use Rattle.rules.specs.Tests.{all, all_below, eqs}
 use Rattle.rules.specs.Words.{tube_in, bal_in, height_of, height_byte, Room}
 use Rattle.rules.specs.Lent.{window, pairs_of, pair_bytes, bytes_of, msg_at, meaning, stored, board_of, encode, cell_at, meaning_cell, stored_cell, row_in, pairs_in, limits, scanned, plain_msg, good_msg, plain_cell, good_cell, cell_form}
 use Rattle.rules.specs.Replies.{pairs_plain}
@@ -18,15 +18,6 @@ use Rattle.rules.proofs.Sound.{and_l, and_r}
 use Rattle.form.specs.Form.{lacking, held, paired, message_fields, message_formed, cell_formed}
 use Rattle.rules.proofs.Each.{each_both, each_same, build, board_build, take-build, all_build}
 use Rattle.rules.proofs.Forms.{length_pairs, height_back, length-window}
-
--- ---- a height within its limit, by its byte
-
-pub height_in : (x : ℕ) → eqb x 255 || leb x 15 ≡ leb (height_of x) 16
-height_in x = go (eqb x 255)
-  where
-    go : (b : Bool) → b || leb x 15 ≡ leb (pick b 0 (suc x)) 16
-    go true = refl
-    go false = sym (leb-suc-suc x 15)
 
 -- ---- the bytes of a window are those of its struct
 

@@ -4,7 +4,7 @@
 ghost use Rattle.std.specs.Prelude.{◌≡◌, true, ◌&&◌, [], ◌*◌, ◌≤◌, leb, length};
 ghost use Rattle.rules.specs.Tests.{all, all_below, first};
 ghost use Rattle.rules.specs.Words.{tube_in, height_of};
-ghost use Rattle.rules.specs.Lent.{memory, lent, board_of, counts, long, room_of, plain_msg, good_msg, cell_form, board_form, heard_form, in_form};
+ghost use Rattle.rules.specs.Lent.{memory, Typed, lent, board_of, counts, long, room_of, plain_msg, good_msg, cell_form, board_form, heard_form, in_form};
 ghost use Rattle.rules.specs.Replies.{number_in};
 ghost use Rattle.form.specs.Form.{paired, cell_formed, bare_of, lacking, held, message_fields, promise_bit, Promises, byte_in, gate_of};
 
@@ -13,13 +13,11 @@ use rules::{Cell, House, Lent, Message, Refusal};
 // ---- pairs and cells
 
 // The pairs are in their limits and ascend, unused ones are 0, and their tubes are on intake.
+#[tactic(auto, using(crate::proofs::Plain::pairs_few))]
 pub fn pairs_ok(pairs: [u8; 32], count: u8, tubes: u8) -> bool
     ensures { result ≡ paired tubes count pairs }
 {
-    if !pairs::pairs_in(pairs, count) {
-        return false;
-    }
-    pairs::each(pairs, count, pairs::Ask::Scanned(tubes))
+    pairs::pairs_in(pairs, count) && pairs::each(pairs, count, pairs::Ask::Scanned(tubes))
 }
 
 // A stored ballot that may be none is in its limits.
@@ -30,16 +28,13 @@ pub fn height_in(x: u8) -> bool
 }
 
 // A stored cell is in form.
+#[tactic(auto, using(crate::proofs::Plain::cell_are))]
 pub fn cell_ok(c: Cell, tubes: u8) -> bool
     ensures { result ≡ cell_formed tubes c }
 {
     let ballots = height_in(c.maxbal) & height_in(c.maxvbal);
     let vote = (c.maxvval <= 64) & (c.maxvval <= tubes);
-    if !(ballots & vote) {
-        return false;
-    }
-    let p = c.pairs;
-    pairs_ok(p, c.count, tubes)
+    (ballots & vote) && pairs_ok(c.pairs, c.count, tubes)
 }
 
 // The first n cells are in form.
@@ -48,15 +43,7 @@ pub fn cells_ok(cells: &[u8], n: usize, tubes: u8) -> bool
     requires n_in_bounds { 36 * n ≤ length cells.now }
     ensures { result ≡ all_below (cell_form tubes cells.now) n }
 {
-    let mut i: usize = 0;
-    while i < n {
-        let c = cell::cell_at(cells, i);
-        if !cell_ok(c, tubes) {
-            return false;
-        }
-        i += 1;
-    }
-    true
+    (0..n).all(|i| cell_ok(cell::cell_at(cells, i), tubes))
 }
 
 // ---- messages
@@ -69,57 +56,47 @@ pub fn bare(m: Message) -> bool
 }
 
 // The kind is known, and the fields that it lacks are 0.
+#[tactic(auto, unfolding(crate::specs::Form::lacking))]
 pub fn lacking_ok(m: Message) -> bool
     ensures { result ≡ lacking m }
 {
-    let none = bare(m);
-    if m.kind == 1 {
-        return (m.node == 0) & ((m.tube == 0) & none);
+    match m.kind {
+        1 => (m.node == 0) & ((m.tube == 0) & bare(m)),
+        2 => m.tube == 0,
+        3 => (m.node == 0) & bare(m),
+        4 | 5 => bare(m),
+        _ => false,
     }
-    if m.kind == 2 {
-        return m.tube == 0;
-    }
-    if m.kind == 3 {
-        return (m.node == 0) & none;
-    }
-    ((m.kind == 4) | (m.kind == 5)) & none
 }
 
 // A tube that may not be none is in its limits and on intake.
 pub fn tube_in(tube: u8, tubes: u8) -> bool
     ensures { result ≡ tube_in tube && leb tube tubes }
 {
-    ((1 <= tube) & (tube <= 64)) & (tube <= tubes)
+    (1..=64).contains(&tube) & (tube <= tubes)
 }
 
 // The fields that the kind has are in their limits, and the tubes on intake.
+#[tactic(auto, unfolding(crate::specs::Form::held))]
 pub fn held_ok(nodes: u8, rows: u8, tubes: u8, m: Message) -> bool
     ensures { result ≡ held nodes rows tubes m }
 {
+    // As (1..=rows).contains(&m.row) the proof didn't close: the search gave up at the match beside it.
     let place = ((1 <= m.row) & (m.row <= rows)) & (m.bal <= 15);
-    if m.kind == 1 {
-        return place;
-    }
-    if m.kind == 2 {
-        return place
-            & ((m.node < nodes) & (height_in(m.mbal) & ((m.mval <= 64) & (m.mval <= tubes))));
-    }
-    let tube = tube_in(m.tube, tubes);
-    if m.kind == 3 {
-        return place & tube;
-    }
-    place & ((m.node < nodes) & tube)
+    let fields = match m.kind {
+        1 => true,
+        2 => (m.node < nodes) & (height_in(m.mbal) & ((m.mval <= 64) & (m.mval <= tubes))),
+        3 => tube_in(m.tube, tubes),
+        _ => (m.node < nodes) & tube_in(m.tube, tubes),
+    };
+    place & fields
 }
 
 // A stored message is plain and good.
 pub fn message_ok(nodes: u8, rows: u8, tubes: u8, m: Message) -> bool
     ensures { result ≡ message_fields nodes rows tubes m }
 {
-    if !(lacking_ok(m) & held_ok(nodes, rows, tubes, m)) {
-        return false;
-    }
-    let p = m.pairs;
-    pairs_ok(p, m.count, tubes)
+    lacking_ok(m) && held_ok(nodes, rows, tubes, m) && pairs_ok(m.pairs, m.count, tubes)
 }
 
 // Every message is plain and good.
@@ -128,29 +105,17 @@ pub fn messages_ok(h: &House, board: &[u8]) -> bool
     requires capacity_in_bounds { 40 * h.now.capacity ≤ length board.now }
     ensures { result ≡ all_below (plain_msg board.now) h.now.count && all (good_msg (room_of h.now) h.now.tubes) (board_of board.now h.now.count) }
 {
-    let n = h.count as usize;
-    let mut i: usize = 0;
-    while i < n {
-        let m = board::msg_at(board, i);
-        if !message_ok(h.nodes, h.rows, h.tubes, m) {
-            return false;
-        }
-        i += 1;
-    }
-    true
+    (0..h.count as usize).all(|i| message_ok(h.nodes, h.rows, h.tubes, board::msg_at(board, i)))
 }
 
 // Every message is plain and good, and no two are equal.
+#[tactic(auto, using(crate::proofs::Says::board_plain, crate::proofs::Says::board_are))]
 pub fn board_ok(h: &House, board: &[u8]) -> bool
     requires h_value { counts h.now ≡ true }
     requires capacity_in_bounds { 40 * h.now.capacity ≤ length board.now }
     ensures { result ≡ board_form (memory h.now board.now [] []) }
 {
-    if !messages_ok(h, board) {
-        return false;
-    }
-    let n = h.count as usize;
-    differ::messages_differ(board, n)
+    messages_ok(h, board) && differ::messages_differ(board, h.count as usize)
 }
 
 // ---- heard bits
@@ -172,12 +137,8 @@ pub fn promises(board: &[u8], n: usize) -> [u8; 128]
     ensures { Promises board.now n result }
 {
     let mut out = [0u8; 128];
-    let mut k: usize = 0;
-    while k < n {
-        let b = promise_bit(board[40 * k], k);
-        let at = k / 8;
-        out[at] = out[at] | b;
-        k += 1;
+    for k in 0..n {
+        out[k / 8] |= promise_bit(board[40 * k], k);
     }
     out
 }
@@ -188,57 +149,42 @@ pub fn bytes_in(heard: &[u8], n: usize, these: &[u8]) -> bool
     requires these_len { length these.now ≡ 128 }
     ensures { result ≡ all_below (byte_in heard.now these.now) n }
 {
-    let mut t: usize = 0;
-    while t < n {
-        let x = heard[t];
-        let j = t % 128;
-        if (x & these[j]) != x {
-            return false;
-        }
-        t += 1;
-    }
-    true
+    (0..n).all(|t| heard[t] & these[t % 128] == heard[t])
 }
 
 // Heard bits stand only at 1b messages.
+#[tactic(auto, using(tables::proofs::Counted::counted))]
 pub fn heard_ok(h: &House, board: &[u8], heard: &[u8]) -> bool
     requires h_value { counts h.now ≡ true }
     requires capacity_in_bounds { 40 * h.now.capacity ≤ length board.now }
     requires nodes_in_bounds { 128 * h.now.nodes ≤ length heard.now }
     ensures { result ≡ heard_form (memory h.now board.now [] heard.now) }
 {
-    let n = h.count as usize;
-    let p = promises(board, n);
-    let k = h.nodes as usize;
-    bytes_in(heard, 128 * k, &p)
+    let p = promises(board, h.count as usize);
+    bytes_in(heard, 128 * h.nodes as usize, &p)
 }
 
 // ---- the gate
 
 // Memory is in form.
+#[tactic(auto, using(crate::proofs::Says::form_are, crate::proofs::Says::long_are, crate::proofs::Says::cells_few, tables::proofs::Counted::counted))]
 pub fn form_ok(m: Lent) -> bool
     requires m_value { counts m.house.now ≡ true }
     requires long_value { long (lent m) ≡ true }
     ensures { result ≡ in_form (lent m.entry) }
 {
     let h = m.house;
-    if !tables::house_ok(h) {
-        return false;
-    }
-    if !board_ok(h, m.board) {
-        return false;
-    }
-    let n = h.nodes as usize;
-    let r = h.rows as usize;
-    if !cells_ok(m.cells, n * r, h.tubes) {
-        return false;
-    }
-    heard_ok(h, m.board, m.heard)
+    tables::house_ok(h)
+        && board_ok(h, m.board)
+        && cells_ok(m.cells, h.nodes as usize * h.rows as usize, h.tubes)
+        && heard_ok(h, m.board, m.heard)
 }
 
 // What the gate answers, where a call's own areas are long enough or not: 17 for a count, 5, 17 for the form, or nothing.
+#[tactic(auto, using(crate::proofs::Says::long_are))]
 pub fn gate_with(m: Lent, areas: bool) -> Result<(), Refusal>
-    ensures { number_in result ≡ first (gate_of (lent m.entry) areas) }
+    ensures number { number_in result ≡ first (gate_of (lent m.entry) areas) }
+    ensures typed { Typed m.entry.house.now }
 {
     let h = m.house;
     if !tables::counts_ok(h) {
@@ -256,7 +202,8 @@ pub fn gate_with(m: Lent, areas: bool) -> Result<(), Refusal>
 
 // What the gate answers to a call that has no areas of its own.
 pub fn gate(m: Lent) -> Result<(), Refusal>
-    ensures { number_in result ≡ first (gate_of (lent m.entry) true) }
+    ensures number { number_in result ≡ first (gate_of (lent m.entry) true) }
+    ensures typed { Typed m.entry.house.now }
 {
     gate_with(m, true)
 }

@@ -1,5 +1,5 @@
 -- A frame: what its bytes are read as, which call its number asks for, all that this call does, and the reply's bytes.
-use Rattle.std.specs.Prelude.{◌≡◌, List, [], ◌∷◌, ◌++◌, ℕ, zero, suc, ◌*◌, eqb, leb, get_or, take, drop}
+use Rattle.std.specs.Prelude.{◌≡◌, Option, Some, None, List, [], ◌∷◌, ◌++◌, ℕ, zero, suc, ◌*◌, eqb, leb, get_or, take, drop}
 use Rattle.rules.specs.Tests.{pick}
 use Rattle.rules.specs.Lent.{Memory}
 use Rattle.rules.specs.Steps.{ask}
@@ -16,8 +16,6 @@ use Rattle.image.specs.Image.{four, four_at, image, house_at}
 use Rattle.frame.specs.declared.Request.{Request}
 use Rattle.frame.specs.declared.Asked.{Asked}
 use Rattle.frame.specs.declared.Asked.TheVariants.{Opening, Step, Row, Book}
-use Rattle.frame.specs.declared.Found.{Found}
-use Rattle.frame.specs.declared.Found.TheVariants.{Call, Nothing}
 
 -- ---- the request
 
@@ -65,13 +63,13 @@ step_of k a = let at : ℕ → ℕ = λ i. get_or a i 0 in
     (Foreign (foreign_of a))))))))
 
 -- what a call's number asks for; there is no call above 10
-abbrev pub found_of : ℕ → List ℕ → Found
+abbrev pub found_of : ℕ → List ℕ → Option Asked
 found_of k a = let at : ℕ → ℕ = λ i. get_or a i 0 in
-    pick (eqb k 0) (Call (Opening (at 0) (at 1) (at 2) (at 3)))
-    (pick (leb k 8) (Call (Step (step_of k a)))
-    (pick (eqb k 9) (Call (Row (at 0)))
-    (pick (eqb k 10) (Call Book)
-    Nothing)))
+    pick (eqb k 0) (Some (Opening (at 0) (at 1) (at 2) (at 3)))
+    (pick (leb k 8) (Some (Step (step_of k a)))
+    (pick (eqb k 9) (Some (Row (at 0)))
+    (pick (eqb k 10) (Some Book)
+    None)))
 
 -- the memory that a frame lends: the room's, and the book's areas for rows and waiting tubes
 pub record Loan : Type 0 where

@@ -50,13 +50,6 @@ pub enum Asked {
     Book,
 }
 
-// What a number asks for: a call, or nothing that there is.
-#[derive(Clone, Copy)]
-pub enum Found {
-    Call(Asked),
-    Nothing,
-}
-
 // What a frame is answered, and the house record afterwards.
 #[derive(Clone, Copy)]
 pub struct Served {
@@ -89,27 +82,19 @@ pub fn serve(
             let o = open::open(
                 house, board, cells, heard, nodes, faulty, rows, capacity, quorums, weaks,
             );
-            let reply = o.reply;
-            let after = o.house;
-            told(reply, after)
+            told(o.reply, o.house)
         }
         Asked::Step(step) => {
             let o = calls::steps::take(house, board, cells, heard, step, pairs);
-            let reply = o.reply;
-            let after = o.house;
-            told(reply, after)
+            told(o.reply, o.house)
         }
         Asked::Row(row) => {
             let o = calls::asks::ask(house, board, cells, heard, row);
-            let reply = o.reply;
-            let after = o.house;
-            told(reply, after)
+            told(o.reply, o.house)
         }
         Asked::Book => {
             let o = calls::asks::book(house, board, cells, heard, book, waiting);
-            let reply = o.reply;
-            let after = o.house;
-            told(reply, after)
+            told(o.reply, o.house)
         }
     }
 }
@@ -118,9 +103,8 @@ pub fn serve(
 fn told(reply: rules::Reply, house: House) -> Served
     ensures { (numbers.told result.answer ≡ answer_of reply) × (result.house ≡ house) }
 {
-    let answer = named::in_numbers(reply);
     Served {
-        answer: answer,
-        house: house,
+        answer: named::in_numbers(reply),
+        house,
     }
 }

@@ -11,18 +11,10 @@ fn arguments(s: &[u8]) -> [u32; 8]
     ensures { result ≡ numbers_at (drop 1 s.now) 8 }
 {
     let mut out = [0u32; 8];
-    let mut i: usize = 0;
-    while i < 8 {
+    for i in 0..8 {
         out[i] = read_u32(s, 1 + 4 * i);
-        i += 1;
     }
     out
-}
-
-fn wide(x: u8) -> u32
-    ensures { result ≡ x }
-{
-    x as u32
 }
 
 // The sixteen pairs, a tube and a ballot each.
@@ -30,13 +22,9 @@ fn pairs(s: &[u8]) -> [u32; 32]
     requires { 552 ≤ length s.now }
     ensures { result ≡ take 32 (drop 33 s.now) }
 {
-    let mut out = [0u32; 32];
-    let mut i: usize = 0;
-    while i < 32 {
-        out[i] = wide(s[33 + i]);
-        i += 1;
-    }
-    out
+    let mut bytes = [0u8; 32];
+    bytes.copy_from_slice(&s[33..65]);
+    bytes.map(u32::from)
 }
 
 // All of the front, each part from its place.
@@ -44,14 +32,11 @@ pub fn request(s: &[u8]) -> Request
     requires { 552 ≤ length s.now }
     ensures { result ≡ request_of s.now }
 {
-    let arguments = arguments(s);
-    let pairs = pairs(s);
-    let house = image::read_house(&s[65..]);
     Request {
         call: s[0],
-        arguments: arguments,
-        pairs: pairs,
-        house: house,
+        arguments: arguments(s),
+        pairs: pairs(s),
+        house: image::read_house(&s[65..]),
         quorums: read_u32(s, 524),
         weaks: read_u32(s, 528),
         board: read_u32(s, 532),

@@ -2,37 +2,32 @@
 ghost use Rattle.std.specs.Prelude.{◌≡◌};
 ghost use Rattle.frame.specs.Frame.{found_of, step_of, foreign_of};
 
-use crate::{Asked, Found};
+use crate::Asked;
 use step::{OneB, Post, Step, Vote};
 
 // A foreign post by its kind; another kind has no fields to hand over.
 fn post(a: [u32; 8]) -> Post
     ensures { result ≡ foreign_of a }
 {
-    let kind = a[0];
-    if kind == 2 {
-        return Post::OneB(OneB {
-            row: a[1],
-            ballot: a[2],
-            node: a[3],
-            mbal: a[5],
-            mval: a[6],
-            count: a[7] as usize,
-        });
-    }
     let vote = Vote {
         row: a[1],
         ballot: a[2],
         node: a[3],
         tube: a[4],
     };
-    if kind == 4 {
-        return Post::Relay(vote);
+    match a[0] {
+        2 => Post::OneB(OneB {
+            row: a[1],
+            ballot: a[2],
+            node: a[3],
+            mbal: a[5],
+            mval: a[6],
+            count: a[7] as usize,
+        }),
+        4 => Post::Relay(vote),
+        5 => Post::Accept(vote),
+        _ => Post::Other,
     }
-    if kind == 5 {
-        return Post::Accept(vote);
-    }
-    Post::Other
 }
 
 // A step by its number, 1 to 8.
@@ -79,19 +74,19 @@ fn step(number: u8, a: [u32; 8]) -> Step
 }
 
 // The call that a number asks for; there is none above 10.
-pub fn found(number: u8, a: [u32; 8]) -> Found
+pub fn found(number: u8, a: [u32; 8]) -> Option<Asked>
     ensures { result ≡ found_of number a }
 {
     match number {
-        0 => Found::Call(Asked::Opening {
+        0 => Some(Asked::Opening {
             nodes: a[0],
             faulty: a[1],
             rows: a[2],
             capacity: a[3],
         }),
-        1..=8 => Found::Call(Asked::Step(step(number, a))),
-        9 => Found::Call(Asked::Row(a[0])),
-        10 => Found::Call(Asked::Book),
-        _ => Found::Nothing,
+        1..=8 => Some(Asked::Step(step(number, a))),
+        9 => Some(Asked::Row(a[0])),
+        10 => Some(Asked::Book),
+        _ => None,
     }
 }

@@ -14,8 +14,8 @@ pub fn reply(answer: Answer, house: House, out: &mut [u8])
     ensures { out.new ≡ patch out.old 0 (reply_of (told answer) house) }
 {
     write_u8(out, 0, answer.number);
-    write_u32(out, 1, answer.value as u32);
-    write_u32(out, 5, answer.waiting as u32);
-    write_u32(out, 9, answer.stopped as u32);
+    write_u32(out, 1, u32::from(answer.value));
+    write_u32(out, 5, u32::from(answer.waiting));
+    write_u32(out, 9, u32::from(answer.stopped));
     image::write_house(house, &mut out[13..]);
 }

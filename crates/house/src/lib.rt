@@ -12,8 +12,7 @@ pub fn with_node(marks: u8, node: Node) -> u8
     requires { node.0 < 8 }
     ensures { result ≡ bit_or marks (2 ^ node.0) }
 {
-    let n = node.0;
-    marks | (1u8 << n)
+    marks | (1 << node.0)
 }
 
 // One node's mark is set, where the record stands.

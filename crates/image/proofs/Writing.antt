@@ -5,7 +5,7 @@ use Prim.Native.Nat.{ℕ, zero, suc, ◌+◌, ◌*◌, ◌≤◌, ◌<◌}
 use native.Mathlib.Numerals.{add-one}
 use native.Mathlib.Omega.{arith}
 use lib.ListN.{length, take, drop, set, length-append, take-append-drop}
-use lib.Seq.{paste, drop-drop, take_all, take_at, drop_at, length-take-le, take-suc-set, get_or-drop}
+use lib.Seq.{drop-drop, take_all, take_at, drop_at, length-take-le, take-suc-set, get_or-drop}
 use Rattle.rules.specs.Lent.{patch}
 use Rattle.rules.specs.declared.House.{House}
 use Rattle.image.specs.Image.{scans, image, four_at}
@@ -13,10 +13,6 @@ use Rattle.image.specs.Image.{scans, image, four_at}
 -- nothing written
 pub none_yet : (s : List ℕ) (at : ℕ) → s ≡ patch s at []
 none_yet s at = sym (take-append-drop at s)
-
--- a whole table
-pub whole : (s p : List ℕ) (at n : ℕ) → length p ≡ n → paste s at p n ≡ patch s at p
-whole s p at n e = rw (take_all n p (omega arith), drop-drop (length p) at s, e) (append_assoc (take at s) p (drop (at + n) s))
 
 -- a part behind a part
 pub behind : (s a b : List ℕ) (at n : ℕ) → at + length a ≡ n → n ≤ length s → patch (patch s at a) n b ≡ patch s at (a ++ b)
@@ -37,6 +33,10 @@ joined a q w t s m n = simp append_assoc
 -- a copy that goes by one number a turn: one number more
 pub one_more : (out l : List ℕ) (i v w : ℕ) → i < length out → take i out ≡ l → v ≡ w → take (i + 1) (set out i v) ≡ l ++ (w ∷ [])
 one_more out l i v w h e d = rw (add-one, take-suc-set out i v h, e, d)
+
+-- and with all of them taken, the whole
+pub all_of : (out : List ℕ) (l : ℕ → List ℕ) (i n : ℕ) → length out ≡ n → i ≡ n → take i out ≡ l i → out ≡ l n
+all_of out l i n k e t = sym (take_all n out (omega arith)) ∙ rw e at t
 
 pub length-scans : (a b : List ℕ) (n : ℕ) → length (scans a b n) ≡ 5 * n
 length-scans a b zero = refl

@@ -11,30 +11,25 @@ pub mod numbers; // numbers.rt: numbers of one, two and four bytes
 mod tables; // tables.rt: the node sets and the scans
 
 // The house record that stands at the front of some bytes.
+#[tactic(auto, unfolding(crate::specs::Image::house_at))]
 pub fn read_house(s: &[u8]) -> House
     requires { 459 ≤ length s.now }
     ensures { result ≡ house_at s.now }
 {
-    let capacity = numbers::read_u16(s, 3);
-    let quorums = tables::read_sets(s, 7);
-    let weaks = tables::read_sets(s, 71);
-    let stations = tables::read_stations(s);
-    let serials = tables::read_serials(s);
-    let count = numbers::read_u16(s, 457);
     House {
         nodes: s[0],
         faulty: s[1],
         rows: s[2],
-        capacity: capacity,
+        capacity: numbers::read_u16(s, 3),
         listed: s[5],
-        quorums: quorums,
+        quorums: tables::read_sets(s, 7),
         backers: s[6],
-        weaks: weaks,
+        weaks: tables::read_sets(s, 71),
         tubes: s[135],
-        stations: stations,
-        serials: serials,
+        stations: tables::read_stations(s),
+        serials: tables::read_serials(s),
         marks: s[456],
-        count: count,
+        count: numbers::read_u16(s, 457),
     }
 }
 
@@ -57,14 +52,10 @@ pub fn write_house(h: House, out: &mut [u8])
     ensures { out.new ≡ patch out.old 0 (image h) }
 {
     write_counts(h, out);
-    let quorums = h.quorums;
-    tables::write_sets(out, 7, quorums);
-    let weaks = h.weaks;
-    tables::write_sets(out, 71, weaks);
+    tables::write_sets(out, 7, h.quorums);
+    tables::write_sets(out, 71, h.weaks);
     numbers::write_u8(out, 135, h.tubes);
-    let stations = h.stations;
-    let serials = h.serials;
-    tables::write_scans(out, stations, serials);
+    tables::write_scans(out, h.stations, h.serials);
     numbers::write_u8(out, 456, h.marks);
     numbers::write_u16(out, 457, h.count);
 }

@@ -11,11 +11,7 @@ pub fn read_sets(s: &[u8], at: usize) -> [u8; 64]
     ensures { result ≡ take 64 (drop at s.now) }
 {
     let mut out = [0u8; 64];
-    let mut i: usize = 0;
-    while i < 64 {
-        out[i] = s[at + i];
-        i += 1;
-    }
+    out.copy_from_slice(&s[at..at + 64]);
     out
 }
 
@@ -24,11 +20,7 @@ pub fn write_sets(out: &mut [u8], at: usize, sets: [u8; 64])
     requires { at + 64 ≤ length out.old }
     ensures { out.new ≡ patch out.old at sets }
 {
-    let mut i: usize = 0;
-    while i < 64 {
-        out[at + i] = sets[i];
-        i += 1;
-    }
+    out[at..at + 64].copy_from_slice(&sets);
 }
 
 // The stations of the sixty-four scans of an image.
@@ -37,10 +29,8 @@ pub fn read_stations(s: &[u8]) -> [u8; 64]
     ensures { result ≡ stations_at (drop 136 s.now) 64 }
 {
     let mut out = [0u8; 64];
-    let mut i: usize = 0;
-    while i < 64 {
+    for i in 0..64 {
         out[i] = s[136 + 5 * i];
-        i += 1;
     }
     out
 }
@@ -51,10 +41,8 @@ pub fn read_serials(s: &[u8]) -> [u32; 64]
     ensures { result ≡ serials_at (drop 136 s.now) 64 }
 {
     let mut out = [0u32; 64];
-    let mut i: usize = 0;
-    while i < 64 {
+    for i in 0..64 {
         out[i] = numbers::read_u32(s, 137 + 5 * i);
-        i += 1;
     }
     out
 }
@@ -73,9 +61,7 @@ pub fn write_scans(out: &mut [u8], stations: [u8; 64], serials: [u32; 64])
     requires { 456 ≤ length out.old }
     ensures { out.new ≡ patch out.old 136 (scans stations serials 64) }
 {
-    let mut i: usize = 0;
-    while i < 64 {
+    for i in 0..64 {
         write_scan(out, 136 + 5 * i, stations[i], serials[i]);
-        i += 1;
     }
 }

@@ -1,6 +1,6 @@
 -- A scan's tube on an intake that is read from the front.
 use mathlib.Core.Path.{◌≡◌, refl, ap, sym, ◌∙◌}
-use mathlib.Core.Bool.{Bool, true, false, ◌&&◌, ◌||◌}
+use mathlib.Core.Bool.{Bool, true, false, ◌&&◌, ◌||◌, true≢false}
 use mathlib.Core.List.{List, [], ◌∷◌, ◌++◌, append_assoc}
 use Prim.Native.Nat.{ℕ, zero, suc, ◌+◌, ◌-◌, ◌<◌}
 use native.Mathlib.Nat.{add-zero, add-suc}
@@ -25,7 +25,7 @@ tube_new [] x y e = refl
 tube_new (p ∷ l) x y e = go (eqb x p.0 && eqb y p.1) (tube_new l x y) e
   where
     go : (b : Bool) → (scanned_in l x y ≡ false → tube_for l x y ≡ suc (length l)) → b || scanned_in l x y ≡ false → pick b 1 (suc (tube_for l x y)) ≡ suc (suc (length l))
-    go true r h = absurd (let z : ◌≡◌ {A = Bool} true false = h in let k : ◌≡◌ {A = ℕ} 0 1 = cc in omega arith)
+    go true r h = absurd (true≢false h)
     go false r h = ap suc (r h)
 
 -- a scan met first after those of l has the tube after theirs
@@ -34,7 +34,7 @@ tube_met [] m p x y e h = rw h
 tube_met (q ∷ l) m p x y e h = go (eqb x q.0 && eqb y q.1) (λ u. tube_met l m p x y u h) e
   where
     go : (b : Bool) → (scanned_in l x y ≡ false → tube_for (l ++ (p ∷ m)) x y ≡ suc (length l)) → b || scanned_in l x y ≡ false → pick b 1 (suc (tube_for (l ++ (p ∷ m)) x y)) ≡ suc (suc (length l))
-    go true r u = absurd (let z : ◌≡◌ {A = Bool} true false = u in let k : ◌≡◌ {A = ℕ} 0 1 = cc in omega arith)
+    go true r u = absurd (true≢false u)
     go false r u = ap suc (r u)
 
 -- the intake begins with its first scans

@@ -9,7 +9,7 @@ ghost use Rattle.rules.specs.Steps.{tube_for};
 pub fn is_scan(station: u8, serial: u32, a: u8, b: u32) -> bool
     ensures { result ≡ eqb station a && eqb serial b }
 {
-    (station == a) & (serial == b)
+    station == a && serial == b
 }
 
 // The tube of a known scan, or the next one.
@@ -19,14 +19,10 @@ pub fn tube_for(stations: &[u8], serials: &[u32], n: usize, station: u8, serial:
     requires n_in_bounds_2 { n ≤ length serials.now }
     ensures { result ≡ tube_for (intake_of stations.now serials.now n) station serial }
 {
-    let mut i: usize = 0;
-    while i < n {
-        let a = stations[i];
-        let b = serials[i];
-        if is_scan(station, serial, a, b) {
+    for i in 0..n {
+        if is_scan(station, serial, stations[i], serials[i]) {
             return i + 1;
         }
-        i += 1;
     }
     n + 1
 }
@@ -36,6 +32,11 @@ pub fn tube_of(h: &rules::House, station: u8, serial: u32) -> usize
     requires { h.now.tubes ≤ 64 }
     ensures { result ≡ tube_for (intake_of h.now.stations h.now.serials h.now.tubes) station serial }
 {
-    let n = h.tubes as usize;
-    tube_for(&h.stations, &h.serials, n, station, serial)
+    tube_for(
+        &h.stations,
+        &h.serials,
+        usize::from(h.tubes),
+        station,
+        serial,
+    )
 }

@@ -1,5 +1,5 @@
 -- A call's three ways: refused at the gate, refused by its judge, done.
-use Rattle.std.proofs.Common.{◌≡◌, refl, ap, sym, ◌∙◌, Bool, true, false, List, [], ◌∷◌, ◌++◌, ℕ, T, Err, Ok, eq-eqb, ne_eqb}
+use Rattle.std.proofs.Common.{◌≡◌, refl, ap, sym, subst, ◌∙◌, Bool, true, false, List, [], ◌∷◌, ◌++◌, ℕ, T, Err, Ok, eq-eqb, ne_eqb}
 use Rattle.rules.specs.Tests.{pick, first}
 use Rattle.rules.specs.Lent.{Memory, room_of, read, Typed, long}
 use Rattle.rules.specs.Steps.{Call}
@@ -33,12 +33,15 @@ first_stops (x ∷ l) k n = go (first_stops l k) x.0 n
 -- ---- a call c on memory m, which is lent to read as l
 
 module _ {l : Memory} (m : Memory) (c : Call) (e : l ≡ m) where
-  -- memory past the gate
-  pub past : Typed m.house → 0 ≡ first (gate l c) → Whole m
-  past t f = let z = clear (gate m c) tt (ap (λ (l : Memory). first (gate l c)) (sym e) ∙ sym f) in record { typed = t; counts = z.0; long = and_l (long m) (areas m.house c) z.1.0; form = z.1.1.0 }
+  -- memory past the gate, as it was lent and as it stands
+  pub past : Typed l.house → 0 ≡ first (gate l c) → Whole l
+  past t f = let z = clear (gate l c) tt (sym f) in record { typed = t; counts = z.0; long = and_l (long l) (areas l.house c) z.1.0; form = z.1.1.0 }
+
+  pub whole : Typed l.house → 0 ≡ first (gate l c) → Whole m
+  whole t f = subst Whole e (past t f)
 
   -- and there the judge's number is the reply
-  judged : {k : ℕ} → 0 ≡ first (gate l c) → k ≡ verdict l c → reply m c ≡ k
+  pub judged : {k : ℕ} → 0 ≡ first (gate l c) → k ≡ verdict l c → reply m c ≡ k
   unfolding reply verdict
   judged f g = ap (λ (l : Memory). reply l c) (sym e) ∙ first_past (gate l c) (rules (room_of l.house) (read l) c) (clear (gate l c) tt (sym f)) ∙ sym g
 
@@ -53,9 +56,6 @@ module _ {l : Memory} (m : Memory) (c : Call) (e : l ≡ m) where
 
   pub by_judge : (x : Refusal) → 0 ≡ first (gate l c) → number_of x ≡ verdict l c → Did m c (answer_of (Err x)) m
   by_judge x f g = refused x (judged f g)
-
-  pub accepted : 0 ≡ first (gate l c) → 0 ≡ verdict l c → reply m c ≡ 0
-  accepted f g = judged f g
 
 -- an accepted call is answered what it tells
 pub done : (m : Memory) (c : Call) (a : Reply) {n : Memory} → reply m c ≡ 0 → values_of a ≡ tell (room_of m.house) (read m) c → n ≡ after m c → Did m c (answer_of (Ok a)) n

@@ -1,10 +1,10 @@
 -- An area that is filled from its front, part after part.
-use mathlib.Core.Path.{◌≡◌, ap, sym, ◌∙◌}
-use mathlib.Core.List.{List, ◌++◌, append_assoc, append-nil}
+use mathlib.Core.Path.{◌≡◌, refl, ap, sym, ◌∙◌}
+use mathlib.Core.List.{List, [], ◌∷◌, ◌++◌, append_assoc, append-nil}
 use Prim.Native.Nat.{ℕ, zero, suc, ◌+◌, ◌*◌}
 use native.Mathlib.Nat.{mul_comm}
 use native.Mathlib.Numerals.{add-one}
-use lib.ListN.{length, drop, length-append}
+use lib.ListN.{length, drop, replicate, length-append}
 use lib.Seq.{take_at, drop_at, drop-drop}
 use Rattle.rules.specs.Tests.{many}
 use Rattle.rules.specs.Lent.{patch}
@@ -22,6 +22,11 @@ next s xs ys n e =
 pub many_last : (k : ℕ) (w : List ℕ) → many (suc k) w ≡ many k w ++ w
 many_last zero w = append-nil w
 many_last (suc k) w = ap (λ (t : List ℕ). w ++ t) (many_last k w) ∙ sym (append_assoc w (many k w) w)
+
+-- parts of one byte
+pub many_one : (n x : ℕ) → many n (x ∷ []) ≡ replicate n x
+many_one zero x = refl
+many_one (suc n) x = ap (λ (t : List ℕ). x ∷ t) (many_one n x)
 
 -- a part w of n bytes into the place numbered k of an area that has k such parts in front
 pub filled_more : (s t w : List ℕ) (k n : ℕ) → length w ≡ n → t ≡ patch s 0 (many k w) → patch t (n * k) w ≡ patch s 0 (many (k + 1) w)

@@ -11,10 +11,8 @@ pub fn fresh_cells(cells: &mut [u8], n: usize)
     ensures { cells.new ≡ patch cells.old 0 (many n (encode (stored_cell fresh))) }
 {
     let c = rules::Cell::fresh();
-    let mut k: usize = 0;
-    while k < n {
+    for k in 0..n {
         cell::set_cell(cells, k, c);
-        k += 1;
     }
 }
 
@@ -23,9 +21,5 @@ pub fn zeros(s: &mut [u8], n: usize)
     requires { n ≤ length s.old }
     ensures { s.new ≡ patch s.old 0 (many n (0 ∷ [])) }
 {
-    let mut k: usize = 0;
-    while k < n {
-        s[k] = 0;
-        k += 1;
-    }
+    s[..n].fill(0);
 }

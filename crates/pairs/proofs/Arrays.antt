@@ -1,12 +1,13 @@
 -- Laws of pair arrays: a pair more, a tube removed, ascending by neighbours, unused pairs 0.
 use mathlib.Core.Path.{◌≡◌, refl, ap, sym, ◌∙◌}
-use mathlib.Core.Bool.{Bool, true, false, not, ◌&&◌, ◌||◌, and-true}
+use mathlib.Core.Bool.{Bool, true, false, not, ◌&&◌, ◌||◌, and-true, and-false}
 use mathlib.Core.List.{List, [], ◌∷◌, ◌++◌, append-nil, append_assoc}
 use Prim.Native.Nat.{ℕ, zero, suc, ◌+◌, ◌-◌, ◌*◌, ◌≤◌, ◌<◌}
+use native.Mathlib.Nat.{add-zero, add-suc}
 use native.Mathlib.Numerals.{add-one}
 use native.Mathlib.Omega.{arith}
-use borrow.Author.Tests.{eq-eqb, ne_eqb, lt-leb, le-leb}
-use lib.Dec.{eqb, eqb_refl}
+use borrow.Author.Tests.{eq-eqb, ne_eqb, lt-leb, le-leb, leb-true, leb-false}
+use lib.Dec.{eqb, leb, eqb_refl}
 use lib.ListN.{length, get_or, drop, set, length-append}
 use Rattle.rules.specs.Tests.{pick, any, all, any_below, eqs, fit}
 use Rattle.rules.specs.Words.{Pair}
@@ -14,7 +15,7 @@ use Rattle.rules.specs.Lent.{pairs_of, flatten, pair_bytes, below, ascend, pairs
 use Rattle.rules.specs.Steps.{without}
 use Rattle.rules.specs.Replies.{pairs_plain}
 use Rattle.rules.proofs.Codec.{pairs_back}
-use Rattle.rules.proofs.Scan.{holds, below_here, below_same, pair_at, pairs_last, pairs_below, all_none}
+use Rattle.rules.proofs.Scan.{holds, pair_at, pairs_last, pairs_below, all_none}
 use Rattle.rules.proofs.Forms.{length_pairs}
 use Rattle.pairs.specs.Pairs.{passes, Packed}
 use Rattle.pairs.specs.declared.Ask.TheVariants.{Limits}
@@ -35,48 +36,38 @@ any_not p (q ∷ l) = go (p q) (any_not p l)
 
 -- ---- ascending, by neighbours
 
+and_assoc : (a b c : Bool) → a && (b && c) ≡ (a && b) && c
+and_assoc true b c = refl
+and_assoc false b c = refl
+
 ascend_last : (l : List Pair) (x y : Pair) → ascend (l ++ (x ∷ y ∷ [])) ≡ ascend (l ++ (x ∷ [])) && below x y
 ascend_last [] x y = and-true (below x y)
 ascend_last (z ∷ []) x y = ap (λ (b : Bool). below z x && b) (and-true (below x y)) ∙ ap (λ (b : Bool). b && below x y) (sym (and-true (below z x)))
 ascend_last (z ∷ w ∷ l) x y = ap (λ (b : Bool). below z w && b) (ascend_last (w ∷ l) x y) ∙ and_assoc (below z w) (ascend (w ∷ l ++ (x ∷ []))) (below x y)
-  where
-    and_assoc : (a b c : Bool) → a && (b && c) ≡ (a && b) && c
-    and_assoc true b c = refl
-    and_assoc false b c = refl
 
-pub ascend-below : (s : List ℕ) (n : ℕ) → ascend (pairs_of (suc n) s) ≡ not (any_below (λ k. not (below (pair_at s k) (pair_at s (suc k)))) n)
-ascend-below s zero = refl
-ascend-below s (suc n) =
-    ap ascend (pairs_last s (suc n) ∙ ap (λ (l : List Pair). l ++ (pair_at s (suc n) ∷ [])) (pairs_last s n) ∙ append_assoc (pairs_of n s) (pair_at s n ∷ []) (pair_at s (suc n) ∷ []))
+-- one pair more: it comes after the one before it
+pub ascend_more : (s : List ℕ) (i : ℕ) → 1 ≤ i → ascend (pairs_of (suc i) s) ≡ ascend (pairs_of i s) && below (get_or s (2 * i - 2) 0, get_or s (2 * i - 1) 0) (pair_at s i)
+ascend_more s zero h = absurd (omega arith)
+ascend_more s (suc n) h =
+    let d : 2 * suc n - 2 ≡ 2 * n = omega arith in
+    let e : 2 * suc n - 1 ≡ 2 * n + 1 = omega arith in
+    rw (d, e) (ap ascend (pairs_last s (suc n) ∙ ap (λ (l : List Pair). l ++ (pair_at s (suc n) ∷ [])) (pairs_last s n) ∙ append_assoc (pairs_of n s) (pair_at s n ∷ []) (pair_at s (suc n) ∷ []))
     ∙ ascend_last (pairs_of n s) (pair_at s n) (pair_at s (suc n))
-    ∙ ap (λ (b : Bool). b && below (pair_at s n) (pair_at s (suc n))) (ap ascend (sym (pairs_last s n)) ∙ ascend-below s n)
-    ∙ go (any_below (λ k. not (below (pair_at s k) (pair_at s (suc k)))) n) (below (pair_at s n) (pair_at s (suc n)))
+    ∙ ap (λ (b : Bool). b && below (pair_at s n) (pair_at s (suc n))) (ap ascend (sym (pairs_last s n))))
+
+-- a pair out of order, whatever comes after it
+pub ascend_stop : (s : List ℕ) (n i : ℕ) → 1 ≤ i → i < n → below (get_or s (2 * i - 2) 0, get_or s (2 * i - 1) 0) (pair_at s i) ≡ false → ascend (pairs_of n s) ≡ false
+ascend_stop s n i h l f = let e : n ≡ suc i + (n - suc i) = omega arith in rw e (far (n - suc i))
   where
-    go : (a b : Bool) → not a && b ≡ not (not b || a)
-    go true true = refl
-    go true false = refl
-    go false true = refl
-    go false false = refl
+    far : (d : ℕ) → ascend (pairs_of (suc i + d) s) ≡ false
+    far zero = rw (add-zero, ascend_more s i h, f) (and-false (ascend (pairs_of i s)))
+    far (suc d) = rw (add-suc, ascend_more s (suc i + d) (omega arith), far d)
 
--- the pairs numbered i and i + 1 are out of order
-abbrev pub falls : List ℕ → ℕ → Bool
-falls s i = not (below (pair_at s i) (get_or s (2 * i + 2) 0, get_or s (2 * i + 3) 0))
-
-falls_at : (s : List ℕ) (n : ℕ) → any_below (λ k. not (below (pair_at s k) (pair_at s (suc k)))) n ≡ any_below (falls s) n
-falls_at s n = below_same (λ k. not (below (pair_at s k) (pair_at s (suc k)))) (falls s) n (λ i l.
-    let d : 2 * suc i ≡ 2 * i + 2 = omega arith in
-    let e : 2 * suc i + 1 ≡ 2 * i + 3 = omega arith in
-    λ j. not (below (pair_at s i) (get_or s (d j) 0, get_or s (e j) 0)))
-
-pub ascend_stop : (s : List ℕ) (n i : ℕ) → i + 1 < n → falls s i ≡ true → ascend (pairs_of n s) ≡ false
-ascend_stop s zero i l h = absurd (omega arith)
-ascend_stop s (suc n) i l h = ascend-below s n ∙ ap not (falls_at s n ∙ below_here (falls s) i n (omega arith) h)
-
-pub ascend_end : (s : List ℕ) (n i : ℕ) → i ≤ n - 1 → n ≤ i + 1 → any_below (falls s) i ≡ false → ascend (pairs_of n s) ≡ true
-ascend_end s zero i l k h = refl
-ascend_end s (suc n) i l k h =
-    let e : i ≡ n = omega arith in
-    ascend-below s n ∙ ap not (falls_at s n ∙ rw e at h)
+-- no pair or one, or all of them passed over
+pub ascend_few : (s : List ℕ) (n i : ℕ) → n ≤ i → (1 < n → i ≤ n) → ascend (pairs_of i s) ≡ true → ascend (pairs_of n s) ≡ true
+ascend_few s zero i l k e = refl
+ascend_few s (suc zero) i l k e = refl
+ascend_few s (suc (suc n)) i l k e = let d : i ≡ suc (suc n) = omega (arith, k (omega arith)) in rw d at e
 
 -- ---- unused pairs
 
@@ -101,6 +92,14 @@ over s n h = rw (length_pairs n s, lt-leb n 16 h)
 pub inside : (s : List ℕ) (n : ℕ) → n ≤ 16 → length s ≡ 32
     → pairs_in (pairs_of n s) && pairs_plain n s ≡ (all (passes Limits) (pairs_of n s) && ascend (pairs_of n s)) && all (λ x. eqb x 0) (drop (2 * n) s)
 inside s n h e = rw (length_pairs n s, le-leb n 16 h, plain_tail s n 32 e (omega arith))
+
+pub whole : (s : List ℕ) (n : ℕ) → length s ≡ 32
+    → pairs_in (pairs_of n s) && pairs_plain n s ≡ leb n 16 && (all (passes Limits) (pairs_of n s) && (ascend (pairs_of n s) && all (λ x. eqb x 0) (drop (2 * n) s)))
+whole s n e = go (leb n 16) refl
+  where
+    go : (b : Bool) → leb n 16 ≡ b → pairs_in (pairs_of n s) && pairs_plain n s ≡ b && (all (passes Limits) (pairs_of n s) && (ascend (pairs_of n s) && all (λ x. eqb x 0) (drop (2 * n) s)))
+    go true d = inside s n (leb-true n 16 d) e ∙ sym (and_assoc (all (passes Limits) (pairs_of n s)) (ascend (pairs_of n s)) (all (λ x. eqb x 0) (drop (2 * n) s)))
+    go false d = over s n (leb-false n 16 d)
 
 -- ---- a tube removed, and a pair put last
 

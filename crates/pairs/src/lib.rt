@@ -31,22 +31,13 @@ pub fn reaches(c: u8, k: u8) -> bool
 pub fn in_limits(t: u8, b: u8) -> bool
     ensures { result ≡ passes Ask.Limits (t, b) }
 {
-    if t < 1 {
-        return false;
-    }
-    if t > rules::Tube::MOST {
-        return false;
-    }
-    b <= rules::Ballot::LAST
+    1 <= t && t <= rules::Tube::MOST && b <= rules::Ballot::LAST
 }
 
 pub fn misses(t: u8, b: u8, tube: u8, c: u8) -> bool
     ensures { result ≡ passes (Ask.Misses tube c) (t, b) }
 {
-    if t != tube {
-        return true;
-    }
-    !reaches(c, b)
+    t != tube || !reaches(c, b)
 }
 
 pub fn pass(ask: Ask, t: u8, b: u8) -> bool
@@ -65,15 +56,10 @@ pub fn each(pairs: [u8; 32], count: u8, ask: Ask) -> bool
     requires { count ≤ 16 }
     ensures { result ≡ all (passes ask) (pairs_of count pairs) }
 {
-    let n = count as usize;
-    let mut i: usize = 0;
-    while i < n {
-        let t = pairs[2 * i];
-        let b = pairs[2 * i + 1];
-        if !pass(ask, t, b) {
+    for i in 0..usize::from(count) {
+        if !pass(ask, pairs[2 * i], pairs[2 * i + 1]) {
             return false;
         }
-        i += 1;
     }
     true
 }
@@ -98,13 +84,7 @@ pub fn has_above(pairs: [u8; 32], count: u8, tube: rules::Tube, c: u8) -> bool
 pub fn comes_before(t: u8, b: u8, u: u8, c: u8) -> bool
     ensures { result ≡ below (t, b) (u, c) }
 {
-    if b < c {
-        return true;
-    }
-    if b != c {
-        return false;
-    }
-    t < u
+    (b, t) < (c, u)
 }
 
 // Whether the first count pairs ascend strictly.
@@ -112,17 +92,15 @@ pub fn ascending(pairs: [u8; 32], count: u8) -> bool
     requires { count ≤ 16 }
     ensures { result ≡ ascend (pairs_of count pairs) }
 {
-    let n = count as usize;
-    let mut i: usize = 0;
-    while i + 1 < n {
-        let t = pairs[2 * i];
-        let b = pairs[2 * i + 1];
-        let u = pairs[2 * i + 2];
-        let c = pairs[2 * i + 3];
-        if !comes_before(t, b, u, c) {
+    for i in 1..usize::from(count) {
+        if !comes_before(
+            pairs[2 * i - 2],
+            pairs[2 * i - 1],
+            pairs[2 * i],
+            pairs[2 * i + 1],
+        ) {
             return false;
         }
-        i += 1;
     }
     true
 }
@@ -131,14 +109,7 @@ pub fn ascending(pairs: [u8; 32], count: u8) -> bool
 pub fn no_pairs(pairs: [u8; 32]) -> bool
     ensures { result ≡ all (λ x. eqb x 0) pairs }
 {
-    let mut sum: u32 = 0;
-    let mut i: usize = 0;
-    while i < 32 {
-        let x = pairs[i];
-        sum += x as u32;
-        i += 1;
-    }
-    sum == 0
+    pairs.iter().map(|x| u32::from(*x)).sum::<u32>() == 0
 }
 
 // Whether the bytes from a place on are 0.
@@ -149,31 +120,18 @@ pub fn zero_from(pairs: [u8; 32], at: usize) -> bool
     if at == 0 {
         return no_pairs(pairs);
     }
-    let mut i = at;
-    while i < 32 {
-        if pairs[i] != 0 {
-            return false;
-        }
-        i += 1;
-    }
-    true
+    pairs[at..].iter().all(|x| *x == 0)
 }
 
 // Whether the pairs are sixteen at most, within limits and ascending, and every unused one is 0.
+#[tactic(auto, using(crate::proofs::Arrays::whole))]
 pub fn pairs_in(pairs: [u8; 32], count: u8) -> bool
     ensures { result ≡ pairs_in (pairs_of count pairs) && pairs_plain count pairs }
 {
-    if count > 16 {
-        return false;
-    }
-    if !each(pairs, count, Ask::Limits) {
-        return false;
-    }
-    if !ascending(pairs, count) {
-        return false;
-    }
-    let n = count as usize;
-    zero_from(pairs, 2 * n)
+    count <= 16
+        && each(pairs, count, Ask::Limits)
+        && ascending(pairs, count)
+        && zero_from(pairs, 2 * usize::from(count))
 }
 
 // Pairs and how many they are.
@@ -188,21 +146,16 @@ pub fn removed(pairs: [u8; 32], count: u8, tube: rules::Tube) -> Held
     requires { count ≤ 16 }
     ensures { Packed (without tube.0 (pairs_of count pairs)) result.count result.pairs }
 {
-    let v = tube.0;
     let mut out = [0u8; 32];
     let mut n: u8 = 0;
-    let mut i: u8 = 0;
-    while i < count {
-        let k = i as usize;
-        let t = pairs[2 * k];
-        let b = pairs[2 * k + 1];
-        if t != v {
-            let j = n as usize;
+    for i in 0..usize::from(count) {
+        let t = pairs[2 * i];
+        if t != tube.0 {
+            let j = usize::from(n);
             out[2 * j] = t;
-            out[2 * j + 1] = b;
+            out[2 * j + 1] = pairs[2 * i + 1];
             n += 1;
         }
-        i += 1;
     }
     Held {
         pairs: out,
@@ -215,8 +168,7 @@ pub fn others(pairs: [u8; 32], count: u8, tube: rules::Tube) -> u8
     requires { count ≤ 16 }
     ensures { result ≡ length (without tube.0 (pairs_of count pairs)) }
 {
-    let w = removed(pairs, count, tube);
-    w.count
+    removed(pairs, count, tube).count
 }
 
 // Pairs for this tube are removed, the rest close up, and (tube, ballot) is put last.
@@ -225,13 +177,10 @@ pub fn moved(pairs: [u8; 32], count: u8, tube: rules::Tube, ballot: rules::Ballo
     requires pairs_len_bound { length (without tube.0 (pairs_of count pairs)) < 16 }
     ensures { Packed (without tube.0 (pairs_of count pairs) ++ ((tube.0, ballot.0) ∷ [])) result.count result.pairs }
 {
-    let w = removed(pairs, count, tube);
-    let n = w.count as usize;
-    let mut out = w.pairs;
-    out[2 * n] = tube.0;
-    out[2 * n + 1] = ballot.0;
-    Held {
-        pairs: out,
-        count: w.count + 1,
-    }
+    let mut w = removed(pairs, count, tube);
+    let n = usize::from(w.count);
+    w.pairs[2 * n] = tube.0;
+    w.pairs[2 * n + 1] = ballot.0;
+    w.count += 1;
+    w
 }

@@ -1,39 +1,9 @@
 // Reads frames from standard input until it ends, or until one that it cannot hold, and writes a reply for each.
 #![tactic(auto)]
 
-ghost use Rattle.std.specs.Prelude.{◌≡◌};
-
-use frame::{Asked, Found, Request, Served};
+use frame::{Asked, Request, Served};
 use std::io;
-use std::io::{ErrorKind, Read, Write};
-
-// Fills a list from the input, four bytes an entry; false where the input ends before.
-fn read_list<R: Read>(input: &mut R, list: &mut [u32]) -> io::Result<bool> {
-    let mut i: usize = 0;
-    while i < list.len() {
-        let mut entry = [0u8; 4];
-        if !read_area(input, &mut entry)? {
-            return Ok(false);
-        }
-        list[i] = image::numbers::read_u32(&entry, 0);
-        i += 1;
-    }
-    Ok(true)
-}
-
-// Fills an area from the input; false where the input ends before.
-fn read_area<R: Read>(input: &mut R, area: &mut [u8]) -> io::Result<bool> {
-    match input.read_exact(area) {
-        Ok(()) => Ok(true),
-        Err(e) => {
-            if e.kind() == ErrorKind::UnexpectedEof {
-                Ok(false)
-            } else {
-                Err(e)
-            }
-        }
-    }
-}
+use std::io::{Read, Write};
 
 fn write_reply<W: Write>(
     output: &mut W,
@@ -44,10 +14,8 @@ fn write_reply<W: Write>(
     book: &[u8],
     waiting: &[u8],
 ) -> io::Result<()> {
-    let answer = served.answer;
-    let house = served.house;
     let mut front = [0u8; frame::REPLY];
-    frame::writing::reply(answer, house, &mut front);
+    frame::writing::reply(served.answer, served.house, &mut front);
     output.write_all(&front)?;
     output.write_all(board)?;
     output.write_all(cells)?;
@@ -56,7 +24,7 @@ fn write_reply<W: Write>(
     output.write_all(waiting)
 }
 
-// Fills the lists and the areas from the input; false where it ends before.
+// Fills the lists and the areas from the input.
 fn read_rest<R: Read>(
     input: &mut R,
     quorums: &mut [u32],
@@ -66,26 +34,14 @@ fn read_rest<R: Read>(
     heard: &mut [u8],
     book: &mut [u8],
     waiting: &mut [u8],
-) -> io::Result<bool> {
-    if !read_list(input, quorums)? {
-        return Ok(false);
-    }
-    if !read_list(input, weaks)? {
-        return Ok(false);
-    }
-    if !read_area(input, board)? {
-        return Ok(false);
-    }
-    if !read_area(input, cells)? {
-        return Ok(false);
-    }
-    if !read_area(input, heard)? {
-        return Ok(false);
-    }
-    if !read_area(input, book)? {
-        return Ok(false);
-    }
-    read_area(input, waiting)
+) -> io::Result<()> {
+    input::read_list(input, quorums)?;
+    input::read_list(input, weaks)?;
+    input.read_exact(board)?;
+    input.read_exact(cells)?;
+    input.read_exact(heard)?;
+    input.read_exact(book)?;
+    input.read_exact(waiting)
 }
 
 // A frame that was read: its call is made, and the reply written.
@@ -101,15 +57,22 @@ fn reply<W: Write>(
     book: &mut [u8],
     waiting: &mut [u8],
 ) -> io::Result<()> {
-    let house = request.house;
-    let pairs = request.pairs;
     let served = frame::serve(
-        house, board, cells, heard, book, waiting, quorums, weaks, call, pairs,
+        request.house,
+        board,
+        cells,
+        heard,
+        book,
+        waiting,
+        quorums,
+        weaks,
+        call,
+        request.pairs,
     );
     write_reply(output, served, board, cells, heard, book, waiting)
 }
 
-// The rest of a frame, whose lists and areas are as long as the parts handed over.
+// The rest of a frame, whose lists and areas are as long as the parts handed over; false where the input ends before.
 fn answer<R: Read, W: Write>(
     input: &mut R,
     output: &mut W,
@@ -123,19 +86,14 @@ fn answer<R: Read, W: Write>(
     book: &mut [u8],
     waiting: &mut [u8],
 ) -> io::Result<bool> {
-    if !read_rest(input, quorums, weaks, board, cells, heard, book, waiting)? {
+    let read = read_rest(input, quorums, weaks, board, cells, heard, book, waiting);
+    if !input::whole(read)? {
         return Ok(false);
     }
     reply(
         output, request, call, quorums, weaks, board, cells, heard, book, waiting,
     )?;
     Ok(true)
-}
-
-fn size(n: u32) -> usize
-    ensures { result ≡ n }
-{
-    n as usize
 }
 
 // A frame whose front was read; false where it cannot be held.
@@ -152,46 +110,29 @@ fn hold<R: Read, W: Write>(
     book: &mut [u8],
     waiting: &mut [u8],
 ) -> io::Result<bool> {
-    let q = size(request.quorums);
-    let w = size(request.weaks);
-    let b = size(request.board);
-    let c = size(request.cells);
-    let h = size(request.heard);
-    let k = size(request.book);
-    let t = size(request.waiting);
-    if q > quorums.len() {
+    let Some(quorums) = quorums.get_mut(..request.quorums as usize) else {
         return Ok(false);
-    }
-    if w > weaks.len() {
+    };
+    let Some(weaks) = weaks.get_mut(..request.weaks as usize) else {
         return Ok(false);
-    }
-    if b > board.len() {
+    };
+    let Some(board) = board.get_mut(..request.board as usize) else {
         return Ok(false);
-    }
-    if c > cells.len() {
+    };
+    let Some(cells) = cells.get_mut(..request.cells as usize) else {
         return Ok(false);
-    }
-    if h > heard.len() {
+    };
+    let Some(heard) = heard.get_mut(..request.heard as usize) else {
         return Ok(false);
-    }
-    if k > book.len() {
+    };
+    let Some(book) = book.get_mut(..request.book as usize) else {
         return Ok(false);
-    }
-    if t > waiting.len() {
+    };
+    let Some(waiting) = waiting.get_mut(..request.waiting as usize) else {
         return Ok(false);
-    }
+    };
     answer(
-        input,
-        output,
-        request,
-        call,
-        &mut quorums[..q],
-        &mut weaks[..w],
-        &mut board[..b],
-        &mut cells[..c],
-        &mut heard[..h],
-        &mut book[..k],
-        &mut waiting[..t],
+        input, output, request, call, quorums, weaks, board, cells, heard, book, waiting,
     )
 }
 
@@ -208,12 +149,11 @@ fn one_frame<R: Read, W: Write>(
     waiting: &mut [u8],
 ) -> io::Result<bool> {
     let mut front = [0u8; frame::REQUEST];
-    if !read_area(input, &mut front)? {
+    if !input::whole(input.read_exact(&mut front))? {
         return Ok(false);
     }
     let request = frame::reading::request(&front);
-    let arguments = request.arguments;
-    let Found::Call(call) = frame::which::found(request.call, arguments) else {
+    let Some(call) = frame::which::found(request.call, request.arguments) else {
         return Ok(false);
     };
     hold(
@@ -233,6 +173,7 @@ fn run<R: Read, W: Write>(
     book: &mut [u8],
     waiting: &mut [u8],
 ) -> io::Result<()> {
+    // a loop with no bound would need the handle Wait, which no crate here has
     for _ in 0..u64::MAX {
         if !one_frame(
             input, output, quorums, weaks, board, cells, heard, book, waiting,

@@ -2,15 +2,13 @@
 use mathlib.Core.Path.{◌≡◌, refl, ap, sym, subst, ◌∙◌}
 use mathlib.Core.Bool.{Bool, true, false, ◌&&◌, ◌||◌, and-true, and-false, true≢false}
 use mathlib.Core.List.{List, [], ◌∷◌, ◌++◌}
-use Prim.Native.Nat.{ℕ, zero, suc, ◌+◌, ◌-◌, ◌*◌, ◌≤◌, ◌<◌}
+use Prim.Native.Nat.{ℕ, zero, suc, min, ◌+◌, ◌-◌, ◌*◌, ◌≤◌, ◌<◌}
 use native.Mathlib.Nat.{add-zero, add-suc}
-use native.Mathlib.Decide.{ℕ_discrete}
 use native.Mathlib.Numerals.{add-one}
 use native.Mathlib.Omega.{arith}
-use borrow.Author.Tests.{eq-eqb, eqb-true, le-ltb, lt-ltb}
-use lib.Dec.{eqb, eqb-suc-zero}
-use lib.ListN.{length, get_or, set, get_or-eq_default}
-use lib.Seq.{get_or-set_same, get_or-set_other}
+use borrow.Author.Tests.{eq-eqb, eqb-true, le-ltb, lt-ltb, leb-true, leb-false}
+use lib.Dec.{eqb, leb, eqb-suc-zero}
+use lib.ListN.{length, get_or, get_or-eq_default}
 use Rattle.rules.specs.Tests.{pick, any, any_below, fit, bit}
 use Rattle.rules.specs.Words.{height_of, Pair, Msg, m1a, m1b, m1c, m2av, m2b, kind_of, Room}
 use Rattle.rules.specs.Lent.{memory, read, room_of, pairs_of, meaning, msg_at, board_of, heard_at, heard_of}
@@ -18,7 +16,7 @@ use Rattle.rules.specs.Steps.{shown, reaches, tells, heard_from, full, covers, k
 use Rattle.rules.specs.declared.House.{House}
 use Rattle.rules.specs.declared.Message.{Message}
 use Rattle.rules.proofs.Codec.{or_no, any_last, length_board}
-use Rattle.rules.proofs.Scan.{turn, below_same, pair_at, pairs_below}
+use Rattle.rules.proofs.Scan.{turn, below_same, pairs_below}
 use Rattle.sets.specs.Sets.{joined, Gathered}
 use Rattle.sets.proofs.Full.{joined-bit, full_gathered, gathered_none}
 use Rattle.board.proofs.Means.{means_1b}
@@ -33,17 +31,22 @@ below-cut : (p : ℕ → Bool) (k : ℕ) → ((i : ℕ) → k ≤ i → p i ≡ 
 below-cut p k f zero = rw add-zero
 below-cut p k f (suc d) = rw (add-suc, f (k + d) (omega arith)) (below-cut p k f d)
 
-pub shown-cut : (s : List ℕ) (n c v : ℕ) → length s ≡ 32 → 16 ≤ n → shown c v 0 0 (pairs_of n s) ≡ shown c v 0 0 (pairs_of 16 s)
-shown-cut s n c v l h =
-    let p : Pair → Bool = λ q. eqb q.0 v && reaches c q.1 in
-    let e : 16 + (n - 16) ≡ n = omega arith in
-    pairs_below p s n
-    ∙ ap (any_below (λ k. p (pair_at s k))) (sym e)
-    ∙ below-cut (λ k. p (pair_at s k)) 16 (λ i w. far i w) (n - 16)
-    ∙ sym (pairs_below p s 16)
+pub shown_cut : (s : List ℕ) (n c v : ℕ) → length s ≡ 32 → shown c v 0 0 (pairs_of n s) ≡ shown c v 0 0 (pairs_of (min n 16) s)
+shown_cut s n c v l = go (leb n 16) refl
   where
     far : (i : ℕ) → 16 ≤ i → eqb (get_or s (2 * i) 0) v && reaches c (get_or s (2 * i + 1) 0) ≡ false
     far i w = rw (get_or-eq_default s 0 {n = 2 * i + 1} (omega arith), le-ltb c 0 (omega arith)) (and-false (eqb (get_or s (2 * i) 0) v))
+
+    go : (b : Bool) → leb n 16 ≡ b → shown c v 0 0 (pairs_of n s) ≡ shown c v 0 0 (pairs_of (min n 16) s)
+    go true h = let k = leb-true n 16 h in let e : min n 16 ≡ n = omega arith in rw e
+    go false h =
+        let k = leb-false n 16 h in
+        let e : min n 16 ≡ 16 = omega arith in
+        let d : 16 + (n - 16) ≡ n = omega arith in
+        rw e (pairs_below (λ q. eqb q.0 v && reaches c q.1) s n
+        ∙ ap (any_below (λ k. eqb (get_or s (2 * k) 0) v && reaches c (get_or s (2 * k + 1) 0))) (sym d)
+        ∙ below-cut (λ k. eqb (get_or s (2 * k) 0) v && reaches c (get_or s (2 * k + 1) 0)) 16 far (n - 16)
+        ∙ sym (pairs_below (λ q. eqb q.0 v && reaches c q.1) s 16))
 
 -- ---- what a 1b's bytes say
 
@@ -54,19 +57,6 @@ none_height x = go (eqb x 255)
     go : (b : Bool) → eqb (pick b 0 (suc x)) 0 ≡ b
     go true = refl
     go false = eqb-suc-zero x
-
--- an array filled from the front: those passed, and those to come
-pub fill_here : (f : ℕ → ℕ) (out : List ℕ) (c x : ℕ) → c < length out → x ≡ f c → ((j : ℕ) → j < c → get_or out j 0 ≡ f j)
-    → (j : ℕ) → j < c + 1 → get_or (set out c x) j 0 ≡ f j
-fill_here f out c x h e g j w = go (ℕ_discrete j c)
-  where
-    go : Dec (j ≡ c) → get_or (set out c x) j 0 ≡ f j
-    go (yes d) = rw (d, get_or-set_same out c x 0 h) e
-    go (no d) = get_or-set_other out c j x 0 d ∙ g j (omega arith)
-
-pub fill_past : (out old : List ℕ) (c x : ℕ) → ((j : ℕ) → c ≤ j → get_or out j 0 ≡ get_or old j 0)
-    → (j : ℕ) → c + 1 ≤ j → get_or (set out c x) j 0 ≡ get_or old j 0
-fill_past out old c x g j w = get_or-set_other out c j x 0 (λ e. omega arith) ∙ g j (omega arith)
 
 -- ---- a 1b of this row, ballot and node
 
@@ -205,8 +195,8 @@ module _ (h : House) (s k : List ℕ) (r n b v : ℕ) (t : Told) (y : Ready h s 
       λ i. sym (full_gathered ρ ρ.quorums (get_or t.low c 0) (λ a. any (tells (asked (ask_at false c v)) r b a) l) y.nodes (g.low c d)) i
       && sym (full_gathered ρ ρ.weaks (get_or t.shown c 0) (λ a. any (tells (asked (ask_at true c v)) r b a) l) y.nodes (g.shown c d)) i
 
-  pub known-sets : (cells : List ℕ) → known ρ (read (memory h s cells k)) r n b v ≡ full ρ ρ.quorums (bit t.none) || any_below (safe_at h t) b
-  known-sets cells =
+  pub known_sets : (cells : List ℕ) → known ρ (read (memory h s cells k)) r n b v ≡ full ρ ρ.quorums (bit t.none) || any_below (safe_at h t) b
+  known_sets cells =
       ap known_of same_heard
       ∙ (λ i. sym (full_gathered ρ ρ.quorums t.none (λ a. any (tells (asked Empty) r b a) l) y.nodes g.none) i
       || below_same (λ c. covers ρ ρ.quorums (tells (asked (ask_at false c v)) r b) l && covers ρ ρ.weaks (tells (asked (ask_at true c v)) r b) l) (safe_at h t) b at_c i)

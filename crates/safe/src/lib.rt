@@ -30,29 +30,18 @@ pub struct Told {
 pub fn is_low(mbal: u8, mval: u8, c: u8, tube: u8) -> bool
     ensures { result ≡ low c tube (height_of mbal) mval [] }
 {
-    if mbal == rules::Ballot::NONE {
-        return true;
-    }
-    if mbal > c {
-        return false;
-    }
-    if mbal != c {
-        return true;
-    }
-    mval == tube
+    mbal == rules::Ballot::NONE || mbal < c || (mbal == c && mval == tube)
 }
 
+#[tactic(auto, using(crate::proofs::Tellers::shown_cut))]
 pub fn is_shown(m: rules::Message, c: u8, tube: u8) -> bool
     ensures { result ≡ shown c tube 0 0 (pairs_of m.count m.pairs) }
 {
-    let p = m.pairs;
-    if m.count > 16 {
-        return pairs::has_above(p, 16, rules::Tube(tube), c);
-    }
-    pairs::has_above(p, m.count, rules::Tube(tube), c)
+    pairs::has_above(m.pairs, m.count.min(16), rules::Tube(tube), c)
 }
 
 // Whether a 1b passes, whatever its row, ballot and node.
+#[tactic(auto, using(crate::proofs::Tellers::none_height))]
 pub fn tells(m: rules::Message, ask: Ask) -> bool
     ensures { result ≡ says ask m }
 {
@@ -68,18 +57,20 @@ pub fn with_teller(set: u8, m: rules::Message, ask: Ask) -> u8
     ensures { result ≡ with_teller set m ask }
 {
     if tells(m, ask) {
-        return sets::with_node(set, m.node);
+        sets::with_node(set, m.node)
+    } else {
+        set
     }
-    set
 }
 
 pub fn ask_at(weak: bool, c: u8, tube: u8) -> Ask
     ensures { result ≡ ask_at weak c tube }
 {
     if weak {
-        return Ask::Shown(c, tube);
+        Ask::Shown(c, tube)
+    } else {
+        Ask::Low(c, tube)
     }
-    Ask::Low(c, tube)
 }
 
 // The sets for each c, with the message's node where the message passes.
@@ -87,29 +78,19 @@ pub fn grown(sets: [u8; 16], m: rules::Message, weak: bool, tube: u8) -> [u8; 16
     ensures { (c : ℕ) → c < 16 → get_or result c 0 ≡ with_teller (get_or sets c 0) m (ask_at weak c tube) }
 {
     let mut out = sets;
-    let mut c: u8 = 0;
-    while c < 16 {
-        let k = c as usize;
-        let ask = ask_at(weak, c, tube);
-        let s = out[k];
-        let t = with_teller(s, m, ask);
-        out[k] = t;
-        c += 1;
+    for c in 0..16 {
+        let k = usize::from(c);
+        out[k] = with_teller(sets[k], m, ask_at(weak, c, tube));
     }
     out
 }
 
 // Whether a message is a 1b of this row and ballot.
+#[tactic(auto, using(crate::proofs::Tellers::promise_reads, board::proofs::Means::is_one_b))]
 pub fn is_promise(m: rules::Message, row: rules::Row, ballot: rules::Ballot) -> bool
     ensures { result ≡ promise row.0 ballot.0 m }
 {
-    let rules::Kind::OneB = board::kind_of(m) else {
-        return false;
-    };
-    if m.row != row.0 {
-        return false;
-    }
-    m.bal == ballot.0
+    board::kind_of(m) == rules::Kind::OneB && m.row == row.0 && m.bal == ballot.0
 }
 
 // One heard message more.
@@ -123,26 +104,21 @@ pub fn told_more(
     if !is_promise(m, bid.row, bid.ballot) {
         return t;
     }
-    let none = with_teller(t.none, m, Ask::Empty);
-    let before = t.low;
-    let low = grown(before, m, false, bid.tube.0);
-    let earlier = t.shown;
-    let shown = grown(earlier, m, true, bid.tube.0);
     Told {
-        none: none,
-        low: low,
-        shown: shown,
+        none: with_teller(t.none, m, Ask::Empty),
+        low: grown(t.low, m, false, bid.tube.0),
+        shown: grown(t.shown, m, true, bid.tube.0),
     }
 }
 
 // Whether a node has heard the message numbered k.
+#[tactic(auto, unfolding(rules::specs::Lent::heard_at))]
 pub fn heard_at(heard: &[u8], node: rules::Node, k: usize) -> bool
     requires node_bound { (node.0 < 8) × (k < 1024) }
     requires node_in_bounds { 128 * node.0 + 128 ≤ length heard.now }
     ensures { result ≡ heard_at heard.now node.0 k }
 {
-    let n = node.0 as usize;
-    let b = heard[128 * n + k / 8];
+    let b = heard[128 * usize::from(node.0) + k / 8];
     let j = (k % 8) as u8;
     sets::in_set(b, j)
 }
@@ -164,8 +140,7 @@ pub fn heard_more(
     if !heard_at(heard, node, k) {
         return t;
     }
-    let m = board::msg_at(board, k);
-    told_more(t, m, bid)
+    told_more(t, board::msg_at(board, k), bid)
 }
 
 // All that a node has heard of the first n messages: one pass.
@@ -181,16 +156,13 @@ pub fn gathered(
     requires node_in_bounds { 128 * node.0 + 128 ≤ length heard.now }
     ensures { Tells result bid.row.0 bid.ballot.0 bid.tube.0 (heard_from (heard_at heard.now node.0) 0 (board_of board.now n)) }
 {
-    let none = [0u8; 16];
     let mut t = Told {
         none: 0,
-        low: none,
-        shown: none,
+        low: [0; 16],
+        shown: [0; 16],
     };
-    let mut i: usize = 0;
-    while i < n {
+    for i in 0..n {
         t = heard_more(t, board, heard, i, node, bid);
-        i += 1;
     }
     t
 }
@@ -201,15 +173,9 @@ pub fn safe_at(h: &rules::House, t: Told, c: u8) -> bool
     requires c_bound { c < 16 }
     ensures { result ≡ safe_at h.now t c }
 {
-    let k = c as usize;
-    let low = t.low;
-    let l = low[k];
-    if !sets::some_full(h.quorums, h.listed, h.nodes, l) {
-        return false;
-    }
-    let shown = t.shown;
-    let s = shown[k];
-    sets::some_full(h.weaks, h.backers, h.nodes, s)
+    let k = usize::from(c);
+    sets::some_full(h.quorums, h.listed, h.nodes, t.low[k])
+        && sets::some_full(h.weaks, h.backers, h.nodes, t.shown[k])
 }
 
 // (ii) for some c below the ballot.
@@ -218,13 +184,10 @@ pub fn safe_below(h: &rules::House, t: Told, ballot: rules::Ballot) -> bool
     requires ballot_bound { ballot.0 ≤ 16 }
     ensures { result ≡ any_below (safe_at h.now t) ballot.0 }
 {
-    let b = ballot.0;
-    let mut c: u8 = 0;
-    while c < b {
+    for c in 0..ballot.0 {
         if safe_at(h, t, c) {
             return true;
         }
-        c += 1;
     }
     false
 }
@@ -240,10 +203,6 @@ pub fn known_safe(
     requires { Ready h.now board.now heard.now node.0 bid.ballot.0 }
     ensures { (cells : List ℕ) → result ≡ known (room_of h.now) (read (memory h.now board.now cells heard.now)) bid.row.0 node.0 bid.ballot.0 bid.tube.0 }
 {
-    let n = h.count as usize;
-    let t = gathered(board, heard, n, node, bid);
-    if sets::some_full(h.quorums, h.listed, h.nodes, t.none) {
-        return true;
-    }
-    safe_below(h, t, bid.ballot)
+    let t = gathered(board, heard, usize::from(h.count), node, bid);
+    sets::some_full(h.quorums, h.listed, h.nodes, t.none) || safe_below(h, t, bid.ballot)
 }

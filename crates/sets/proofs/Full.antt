@@ -1,5 +1,5 @@
 -- A gathered set stands for the test that it was gathered by: one node more, and a full set of one is a full set of the other.
-use mathlib.Core.Path.{◌≡◌, refl, sym}
+use mathlib.Core.Path.{◌≡◌, refl, ap, sym, ◌∙◌}
 use mathlib.Core.Bool.{Bool, true, false, ◌||◌}
 use mathlib.Core.List.{List, [], ◌∷◌}
 use Prim.Native.Nat.{ℕ, zero, suc, ◌^◌, ◌≤◌, ◌<◌}
@@ -8,11 +8,14 @@ use native.Mathlib.Omega.{arith}
 use borrow.Author.Tests.{ne_eqb, ltb-false}
 use lib.Bits.{bit_or}
 use lib.Dec.{eqb, ltb}
-use Rattle.rules.specs.Tests.{pick, all_in, bit}
+use lib.ListN.{length, get_or}
+use lib.Seq.{take_all}
+use Rattle.rules.specs.Tests.{pick, any, any_below, all_in, bit}
 use Rattle.rules.specs.Words.{Room}
 use Rattle.rules.specs.Steps.{full}
 use Rattle.rules.proofs.Nodes.{mark_bit}
 use Rattle.rules.proofs.Codec.{or_no}
+use Rattle.rules.proofs.Scan.{take_below}
 use Rattle.sets.specs.Sets.{joined, Gathered}
 
 in_same : (n q : ℕ) (p r : ℕ → Bool) → ((a : ℕ) → a < n → p a ≡ r a) → all_in n q p ≡ all_in n q r
@@ -35,6 +38,10 @@ joined-bit set n a h = go (ltb n 8) refl
     go : (b : Bool) → ltb n 8 ≡ b → bit (pick b (bit_or set (2 ^ n)) set) a ≡ bit set a || eqb a n
     go true e = mark_bit set n a
     go false e = rw (ne_eqb a n (λ z. omega (arith, ltb-false n 8 e))) (sym (or_no (bit set a)))
+
+-- some element of a list passes: some number below its length has one
+pub any_items : (p : ℕ → Bool) (l : List ℕ) → any p l ≡ any_below (λ k. p (get_or l k 0)) (length l)
+any_items p l = ap (any p) (sym (take_all (length l) l (omega arith))) ∙ take_below p l (length l) (omega arith)
 
 -- the empty set, and one node more
 pub gathered_none : (p : ℕ → Bool) → ((a : ℕ) → p a ≡ false) → Gathered 0 p

@@ -24,11 +24,7 @@ pub fn lacks(q: u8, have: u8, a: u8) -> bool
     requires { a < 8 }
     ensures { result ≡ bit q a && not (bit have a) }
 {
-    if in_set(q, a) {
-        !in_set(have, a)
-    } else {
-        false
-    }
+    in_set(q, a) && !in_set(have, a)
 }
 
 // Whether some listed set has all its nodes in have. Both loops are left at the first such set.
@@ -37,23 +33,13 @@ pub fn some_full(list: [u8; 64], listed: u8, nodes: u8, have: u8) -> bool
     requires nodes_bound { nodes ≤ 8 }
     ensures { result ≡ any (λ q. all_in nodes q (bit have)) (take listed list) }
 {
-    let n = listed as usize;
-    let mut found = false;
-    let mut k: usize = 0;
-    'sets: while k < n {
-        let q = list[k];
-        let mut a: u8 = 0;
-        'nodes: loop {
-            if a == nodes {
-                found = true;
-                break 'sets;
+    'sets: for q in &list[..usize::from(listed)] {
+        for a in 0..nodes {
+            if lacks(*q, have, a) {
+                continue 'sets;
             }
-            if lacks(q, have, a) {
-                break 'nodes;
-            }
-            a += 1;
         }
-        k += 1;
+        return true;
     }
-    found
+    false
 }

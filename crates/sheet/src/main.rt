@@ -42,21 +42,13 @@ fn take_part<W: Write>(
     requires in_bounds_2 { 68 ≤ length out.old }
 {
     let mut s = from;
-    let mut i: usize = 0;
-    while i < part.len() {
-        s = take_one(output, s, part[i], line, board, cells, heard, out)?;
-        i += 1;
+    for b in part {
+        s = take_one(output, s, *b, line, board, cells, heard, out)?;
     }
     Ok(s)
 }
 
-// What one reading left: whether there may be more to read, and the sheet.
-#[derive(Clone, Copy)]
-struct Turn {
-    more: bool,
-    session: Session,
-}
-
+// The sheet after one reading; none where the input has ended.
 fn one_turn<R: Read, W: Write>(
     input: &mut R,
     output: &mut W,
@@ -66,23 +58,17 @@ fn one_turn<R: Read, W: Write>(
     cells: &mut [u8],
     heard: &mut [u8],
     out: &mut [u8],
-) -> io::Result<Turn>
+) -> io::Result<Option<Session>>
     requires in_bounds { 256 ≤ length line.old }
     requires in_bounds_2 { 68 ≤ length out.old }
 {
     let mut part = [0u8; 4096];
     let n = input.read(&mut part)?;
     if n == 0 {
-        return Ok(Turn {
-            more: false,
-            session: s,
-        });
+        return Ok(None);
     }
     let after = take_part(output, s, &part[..n], line, board, cells, heard, out)?;
-    Ok(Turn {
-        more: true,
-        session: after,
-    })
+    Ok(Some(after))
 }
 
 // The whole input, part by part.
@@ -99,12 +85,12 @@ fn read_all<R: Read, W: Write>(
     requires in_bounds_2 { 68 ≤ length out.old }
 {
     let mut s = session::begin();
+    // a loop with no bound would need the handle Wait, which no crate here has
     for _ in 0..u64::MAX {
-        let t = one_turn(input, output, s, line, board, cells, heard, out)?;
-        s = t.session;
-        if !t.more {
+        let Some(after) = one_turn(input, output, s, line, board, cells, heard, out)? else {
             return Ok(s);
-        }
+        };
+        s = after;
     }
     Ok(s)
 }

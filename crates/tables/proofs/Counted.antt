@@ -1,18 +1,15 @@
 -- What a house record has whose counts pass, and what its tables and its form say by the tests of their parts.
-use mathlib.Core.Path.{◌≡◌, ap, ◌∙◌}
-use mathlib.Core.Bool.{Bool, true, ◌&&◌}
-use mathlib.Core.List.{List, [], ◌∷◌}
+use mathlib.Core.Path.{◌≡◌, refl, ap, ◌∙◌}
+use mathlib.Core.Bool.{true, ◌&&◌}
+use mathlib.Core.List.{List, []}
 use Prim.Native.Nat.{ℕ, ◌^◌, ◌≤◌}
-use native.Mathlib.Omega.{arith}
 use lib.Dec.{T, eqb, ltb, leb→le}
-use lib.ListN.{length, take}
-use Rattle.rules.specs.Tests.{all, all_below, distinct, first}
+use Rattle.rules.specs.Tests.{all_below, distinct, first}
 use Rattle.rules.specs.Lent.{memory, counts, tables, room_of, intake_of, same_scan, house_form}
 use Rattle.rules.specs.declared.House.{House}
 use Rattle.rules.proofs.Sound.{and_l, and_r}
 use Rattle.rules.proofs.Each.{intake_build, distinct-build}
-use Rattle.tables.specs.declared.Asked.TheVariants.{Present, Strong}
-use Rattle.tables.specs.Tables.{passes, share, scan_at, new_scan}
+use Rattle.tables.specs.Tables.{scan_at, new_scan}
 
 pub record Counted (h : House) : Type 0 where
   pub node : 1 ≤ h.nodes
@@ -43,30 +40,11 @@ counted h e =
       count = search (leb→le, and_l, and_r) depth 9;
     }
 
--- what the tables say, by the tests of their parts
-pub tables_are : (h : House) (a b c d : Bool)
-    → all (passes h.nodes h.faulty Present) (take h.listed h.quorums) ≡ a
-    → all (passes h.nodes h.faulty Present) (take h.backers h.weaks) ≡ b
-    → all (λ p. all (share h.nodes h.faulty p) (take h.listed h.quorums)) (take h.listed h.quorums) ≡ c
-    → all (passes h.nodes h.faulty Strong) (take h.backers h.weaks) ≡ d
-    → first (tables (room_of h)) ≡ first ((a && b, 2) ∷ (c, 3) ∷ (d, 4) ∷ [])
-tables_are h a b c d p q r s = λ i. first ((p i && q i, 2) ∷ (r i, 3) ∷ (s i, 4) ∷ [])
-
--- a list of the house record is as long as its count says
-pub listed-fit : (h : House) → counts h ≡ true → length h.quorums ≡ 64 → (h.nodes ≤ 8) × (h.listed ≤ length h.quorums)
-listed-fit h e l = let k = counted h e in (k.nodes, omega arith)
-
-pub backers_fit : (h : House) → counts h ≡ true → length h.weaks ≡ 64 → (h.nodes ≤ 8) × (h.backers ≤ length h.weaks)
-backers_fit h e l = let k = counted h e in (k.nodes, omega arith)
-
-pub scans-fit : (h : House) → counts h ≡ true → length h.stations ≡ 64 → length h.serials ≡ 64 → (h.tubes ≤ length h.stations) × (h.tubes ≤ length h.serials)
-scans-fit h e a b = let k = counted h e in (omega arith, omega arith)
-
 -- what the house record's form says, by the tests of its parts
-pub house_are : (h : House) (a b : Bool) → eqb (first (tables (room_of h))) 0 ≡ a → distinct same_scan (intake_of h.stations h.serials h.tubes) ≡ b
-    → house_form (memory h [] [] []) ≡ a && (b && ltb h.marks (2 ^ h.nodes))
+pub house_are : (h : House)
+    → house_form (memory h [] [] []) ≡ eqb (first (tables (room_of h))) 0 && (distinct same_scan (intake_of h.stations h.serials h.tubes) && ltb h.marks (2 ^ h.nodes))
 unfolding house_form
-house_are h a b p q = λ i. p i && (q i && ltb h.marks (2 ^ h.nodes))
+house_are h = refl
 
 -- no scan is the same as an earlier one
 pub intake_differs : (a b : List ℕ) (n : ℕ) → distinct same_scan (intake_of a b n) ≡ all_below (new_scan a b) n

@@ -1,3 +1,4 @@
+pub mod Chains
 pub mod Sets
 pub mod Counted
 pub mod Lists

@@ -1,25 +1,26 @@
 -- Lists of sets as opening is handed them and as the house record has them.
 use mathlib.Core.Path.{◌≡◌, refl, ap, sym, ◌∙◌}
-use mathlib.Core.Bool.{Bool, true, false, ◌&&◌}
+use mathlib.Core.Bool.{Bool, true, false}
 use mathlib.Core.List.{List, [], ◌∷◌}
 use Prim.Native.Nat.{ℕ, zero, suc, ◌+◌, ◌^◌, ◌≤◌, ◌<◌}
 use native.Mathlib.Numerals.{add-one}
 use native.Mathlib.Omega.{arith}
 use borrow.Author.Tests.{ltb-true, ltb-false}
 use lib.Dec.{ltb}
-use lib.ListN.{length, get_or, take, set, get_or-eq_default}
+use lib.ListN.{length, get_or, take, set, replicate, get_or-eq_default}
 use lib.Pow.{pow_mono}
 use lib.Seq.{take-length}
-use Rattle.rules.specs.Tests.{all, all_below, fit, first}
-use Rattle.rules.specs.Lent.{tables}
-use Rattle.rules.proofs.Codec.{take-fit}
+use Rattle.rules.specs.Tests.{all, all_below, fit}
 use Rattle.rules.proofs.Each.{each_at, all_take}
-use Rattle.tables.specs.declared.Asked.TheVariants.{Strong}
-use Rattle.tables.specs.Tables.{passes, share, with_lists}
 
 -- a list by its numbers
 pub all_list : (p : ℕ → Bool) (l : List ℕ) → all p l ≡ all_below (λ i. p (get_or l i 0)) (length l)
 all_list p l = ap (all p) (sym (take-length l)) ∙ all_take p l (length l) (omega arith)
+
+-- no number yet
+pub fit-none : (n : ℕ) → replicate n 0 ≡ fit n []
+fit-none zero = refl
+fit-none (suc n) = ap (λ (t : List ℕ). 0 ∷ t) (fit-none n)
 
 -- one number more fits
 pub fit-more : (n i : ℕ) (l : List ℕ) → i < length l → i < n → set (fit n (take i l)) i (get_or l i 0) ≡ fit n (take (i + 1) l)
@@ -38,14 +39,3 @@ set_bytes nodes l h e i = go (ltb i (length l)) refl
         let m : 2 ^ nodes ≤ 2 ^ 8 = pow_mono h in
         omega arith
     go false d = let z = get_or-eq_default l 0 {n = i} (ltb-false i (length l) d) in omega arith
-
--- what the tables of a room say, by the tests of their parts
-pub lists_are : (nodes faulty : ℕ) (q w : List ℕ) (a b c d : Bool) → length q ≤ 64 → length w ≤ 64
-    → all (λ x. ltb x (2 ^ nodes)) q ≡ a → all (λ x. ltb x (2 ^ nodes)) w ≡ b
-    → all (λ p. all (share nodes faulty p) (take (length q) (fit 64 q))) (take (length q) (fit 64 q)) ≡ c
-    → all (passes nodes faulty Strong) (take (length w) (fit 64 w)) ≡ d
-    → first (tables (with_lists nodes faulty q w)) ≡ first ((a && b, 2) ∷ (c, 3) ∷ (d, 4) ∷ [])
-lists_are nodes faulty q w a b c d h l p r s t =
-    let u : all (λ p. all (share nodes faulty p) q) q ≡ c = rw (take-fit 64 q h) at s in
-    let v : all (passes nodes faulty Strong) w ≡ d = rw (take-fit 64 w l) at t in
-    λ i. first ((p i && r i, 2) ∷ (u i, 3) ∷ (v i, 4) ∷ [])

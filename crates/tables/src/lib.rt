@@ -4,7 +4,7 @@
 ghost use Rattle.std.specs.Prelude.{◌≡◌, true, ◌&&◌, [], ℕ, ◌^◌, ◌≤◌, ◌<◌, leb, ltb, length, get_or, take};
 ghost use Rattle.rules.specs.Tests.{all, distinct, fit, bit, count, first};
 ghost use Rattle.rules.specs.Words.{nodes_in, faulty_in, rows_in, capacity_in};
-ghost use Rattle.rules.specs.Lent.{memory, counts, tables, room_of, intake_of, same_scan, house_form};
+ghost use Rattle.rules.specs.Lent.{memory, Typed, counts, tables, room_of, intake_of, same_scan, house_form};
 ghost use Rattle.rules.specs.Replies.{number_in};
 ghost use Rattle.tables.specs.Tables.{lengths, passes, share, with_lists, new_scan};
 
@@ -16,7 +16,7 @@ use rules::{House, Refusal};
 pub fn within(low: u32, x: u32, high: u32) -> bool
     ensures { result ≡ leb low x && leb x high }
 {
-    (low <= x) & (x <= high)
+    (low..=high).contains(&x)
 }
 
 // Nodes, unruly stations, rows and capacity are in their limits.
@@ -27,8 +27,10 @@ pub fn sizes_in(nodes: u32, faulty: u32, rows: u32, capacity: u32) -> bool
 }
 
 // All counts of the house record are in their limits.
+#[tactic(auto, unfolding(rules::specs::Lent::counts))]
 pub fn counts_ok(h: &House) -> bool
-    ensures { result ≡ counts h.now }
+    ensures value { result ≡ counts h.now }
+    ensures typed { Typed h.now }
 {
     let sizes = sizes_in(
         h.nodes as u32,
@@ -65,7 +67,7 @@ pub fn members(nodes: u8, set: u8) -> u32
     ensures { result ≡ count (bit set) nodes }
 {
     let low = (set as u16) % (1u16 << nodes);
-    u16::count_ones(low)
+    low.count_ones()
 }
 
 // What the tables ask of a set: it names present nodes, it shares more than f of them with another, it has more than f.
@@ -76,6 +78,7 @@ pub enum Asked {
     Strong,
 }
 
+#[tactic(auto, using(crate::proofs::Sets::common_count))]
 pub fn set_passes(nodes: u8, faulty: u8, asked: Asked, set: u8) -> bool
     requires { nodes ≤ 8 }
     ensures { result ≡ passes nodes faulty asked set }
@@ -93,15 +96,9 @@ pub fn all_pass(nodes: u8, faulty: u8, asked: Asked, sets: &[u8], n: usize) -> b
     requires n_in_bounds { n ≤ length sets.now }
     ensures { result ≡ all (passes nodes faulty asked) (take n sets.now) }
 {
-    let mut i: usize = 0;
-    while i < n {
-        let set = sets[i];
-        if !set_passes(nodes, faulty, asked, set) {
-            return false;
-        }
-        i += 1;
-    }
-    true
+    sets[..n]
+        .iter()
+        .all(|set| set_passes(nodes, faulty, asked, *set))
 }
 
 // Each two of the first n sets, one with itself too, share more than f nodes.
@@ -110,28 +107,22 @@ pub fn all_share(nodes: u8, faulty: u8, sets: &[u8], n: usize) -> bool
     requires n_in_bounds { n ≤ length sets.now }
     ensures { result ≡ all (λ p. all (share nodes faulty p) (take n sets.now)) (take n sets.now) }
 {
-    let mut i: usize = 0;
-    while i < n {
-        let p = sets[i];
-        if !all_pass(nodes, faulty, Asked::Shares(p), sets, n) {
-            return false;
-        }
-        i += 1;
-    }
-    true
+    sets[..n]
+        .iter()
+        .all(|p| all_pass(nodes, faulty, Asked::Shares(*p), sets, n))
 }
 
 // What opening says of a house record's tables: 2, 3, 4, or nothing if they pass.
+#[tactic(auto, using(crate::proofs::Counted::counted))]
 pub fn test_tables(h: &House) -> Result<(), Refusal>
     requires { counts h.now ≡ true }
     ensures { number_in result ≡ first (tables (room_of h.now)) }
 {
     let n = h.listed as usize;
     let k = h.backers as usize;
-    if !all_pass(h.nodes, h.faulty, Asked::Present, &h.quorums, n) {
-        return Err(Refusal::AbsentNode);
-    }
-    if !all_pass(h.nodes, h.faulty, Asked::Present, &h.weaks, k) {
+    if !all_pass(h.nodes, h.faulty, Asked::Present, &h.quorums, n)
+        || !all_pass(h.nodes, h.faulty, Asked::Present, &h.weaks, k)
+    {
         return Err(Refusal::AbsentNode);
     }
     if !all_share(h.nodes, h.faulty, &h.quorums, n) {
@@ -151,27 +142,18 @@ pub fn sets_present(nodes: u8, sets: &[u32]) -> bool
     ensures { result ≡ all (λ q. ltb q (2 ^ nodes)) sets.now }
 {
     let top = 1u32 << nodes;
-    let mut i: usize = 0;
-    while i < sets.len() {
-        if sets[i] >= top {
-            return false;
-        }
-        i += 1;
-    }
-    true
+    sets.iter().all(|set| *set < top)
 }
 
-// The sets of a list as the house record has them, with zeros after them.
-pub fn narrowed(sets: &[u32]) -> [u8; 64]
-    requires sets_len_bound { length sets.now ≤ 64 }
+// Numbers below 256 as an array of bytes, with zeros after them.
+pub fn narrowed<const N: usize>(sets: &[u32]) -> [u8; N]
+    requires sets_len_bound { length sets.now ≤ N }
     requires by_index { (i : ℕ) → get_or sets.now i 0 < 256 }
-    ensures { result ≡ fit 64 sets.now }
+    ensures { result ≡ fit N sets.now }
 {
-    let mut out = [0u8; 64];
-    let mut i: usize = 0;
-    while i < sets.len() {
-        out[i] = sets[i] as u8;
-        i += 1;
+    let mut out = [0u8; N];
+    for (i, set) in sets.iter().enumerate() {
+        out[i] = *set as u8;
     }
     out
 }
@@ -182,14 +164,11 @@ pub fn test_lists(nodes: u8, faulty: u8, quorums: &[u32], weaks: &[u32]) -> Resu
     requires quorums_len_bound { (length quorums.now ≤ 64) × (length weaks.now ≤ 64) }
     ensures { number_in result ≡ first (tables (with_lists nodes faulty quorums.now weaks.now)) }
 {
-    if !sets_present(nodes, quorums) {
+    if !sets_present(nodes, quorums) || !sets_present(nodes, weaks) {
         return Err(Refusal::AbsentNode);
     }
-    if !sets_present(nodes, weaks) {
-        return Err(Refusal::AbsentNode);
-    }
-    let q = narrowed(quorums);
-    let w = narrowed(weaks);
+    let q: [u8; 64] = narrowed(quorums);
+    let w: [u8; 64] = narrowed(weaks);
     if !all_share(nodes, faulty, &q, quorums.len()) {
         return Err(Refusal::SmallOverlap);
     }
@@ -207,16 +186,7 @@ pub fn scan_new(stations: &[u8], serials: &[u32], k: usize) -> bool
     requires k_in_bounds_2 { k < length serials.now }
     ensures { result ≡ new_scan stations.now serials.now k }
 {
-    let a = stations[k];
-    let b = serials[k];
-    let mut j: usize = 0;
-    while j < k {
-        if (stations[j] == a) & (serials[j] == b) {
-            return false;
-        }
-        j += 1;
-    }
-    true
+    (0..k).all(|j| (stations[j] != stations[k]) | (serials[j] != serials[k]))
 }
 
 // The first n scans differ from one another.
@@ -225,27 +195,16 @@ pub fn scans_differ(stations: &[u8], serials: &[u32], n: usize) -> bool
     requires n_in_bounds_2 { n ≤ length serials.now }
     ensures { result ≡ distinct same_scan (intake_of stations.now serials.now n) }
 {
-    let mut i: usize = 0;
-    while i < n {
-        if !scan_new(stations, serials, i) {
-            return false;
-        }
-        i += 1;
-    }
-    true
+    (0..n).all(|k| scan_new(stations, serials, k))
 }
 
 // The tables pass opening, intake scans differ from one another, marks name only existing nodes.
+#[tactic(auto, using(crate::proofs::Counted::counted, crate::proofs::Counted::house_are, rules::proofs::Named::positive))]
 pub fn house_ok(h: &House) -> bool
     requires { counts h.now ≡ true }
     ensures { result ≡ house_form (memory h.now [] [] []) }
 {
-    let Ok(()) = test_tables(h) else {
-        return false;
-    };
-    let n = h.tubes as usize;
-    if !scans_differ(&h.stations, &h.serials, n) {
-        return false;
-    }
-    (h.marks as u16) < (1u16 << h.nodes)
+    test_tables(h).is_ok()
+        && scans_differ(&h.stations, &h.serials, h.tubes as usize)
+        && (h.marks as u16) < (1u16 << h.nodes)
 }

@@ -1,7 +1,8 @@
 -- A row's outcome, by its votes: a tube that fills a quorum with its votes is chosen, and two searches tell one from two.
 use mathlib.Core.Path.{◌≡◌, sym, ◌∙◌}
-use mathlib.Core.Bool.{Bool, true, false}
+use mathlib.Core.Bool.{Bool, true}
 use mathlib.Core.List.{List}
+use Rattle.std.specs.Prelude.{None}
 use Prim.Native.Nat.{ℕ, ◌+◌, ◌≤◌, ◌<◌}
 use native.Mathlib.Decide.{ℕ_discrete, dec_lt}
 use native.Mathlib.Omega.{arith}
@@ -19,16 +20,7 @@ use Rattle.rules.proofs.Scan.{below_same, holds}
 use Rattle.rules.proofs.Outcome.{none_chosen, one-chosen, two-chosen}
 use Rattle.sets.proofs.Full.{full_gathered}
 use Rattle.tell.specs.Votes.{Countable, slot, Counted}
-use Rattle.tell.specs.Chosen.{filled, carried, Next}
-
--- one more that does not pass
-pub passed-more : (p : ℕ → Bool) (start v : ℕ) → ((w : ℕ) → start ≤ w → w < v → p w ≡ false) → p v ≡ false
-    → (w : ℕ) → start ≤ w → w < v + 1 → p w ≡ false
-passed-more p start v f e w x y = go (ℕ_discrete w v)
-  where
-    go : Dec (w ≡ v) → p w ≡ false
-    go (yes d) = rw d e
-    go (no d) = f w x (omega arith)
+use Rattle.tell.specs.Chosen.{filled, carried, First, Next}
 
 -- the votes tell whether a tube is chosen
 pub carried-chosen : (h : House) (s cells heard votes : List ℕ) (row v : ℕ) → Countable h s → Counted (board_of s h.count) row votes → 1 ≤ v → v ≤ 64
@@ -61,24 +53,27 @@ module _ (h : House) (s cells heard votes : List ℕ) (row : ℕ) (c : Countable
   is_chosen : (w : ℕ) → 1 ≤ w → w ≤ 64 → p w ≡ true → Chosen ρ σ row w
   is_chosen w l k e = (and_two (leb 1 w) (leb w 64) (le→leb 1 w l) (le→leb w 64 k), rw (sym (carried-chosen h s cells heard votes row w c f l k) ∙ e) tt)
 
-  -- what was holds over is not chosen
-  over : (start v w : ℕ) → Next p start v → start ≤ w → w < v → Chosen ρ σ row w → ⊥
+  -- what a search passed over is not chosen
+  over : (start v w : ℕ) → First p start v → start ≤ w → w < v → Chosen ρ σ row w → ⊥
   over start v w n a b z = let e : ◌≡◌ {A = ℕ} 0 1 = cc ((found w z).2, n.none w a b) in omega arith
 
-  pub is_unchosen : (v : ℕ) → Next p 1 v → 64 < v → outcome ρ σ row ≡ unchosen
-  is_unchosen v n l = (none_chosen ρ σ row).1 (λ w z. over 1 v w n (found w z).0 (omega (arith, (found w z).1)) z)
+  missed : (start w : ℕ) → Next p start None → start ≤ w → Chosen ρ σ row w → ⊥
+  missed start w n a z = let e : ◌≡◌ {A = ℕ} 0 1 = cc ((found w z).2, n w a (found w z).1) in omega arith
 
-  module _ (v w : ℕ) (n : Next p 1 v) (l : v ≤ 64) (m : Next p (v + 1) w) where
+  pub is_unchosen : Next p 1 None → outcome ρ σ row ≡ unchosen
+  is_unchosen n = (none_chosen ρ σ row).1 (λ w z. missed 1 w n (found w z).0 z)
+
+  module _ (v : ℕ) (n : First p 1 v) where
     first : Chosen ρ σ row v
-    first = is_chosen v n.low l (n.here l)
+    first = is_chosen v n.low n.high n.here
 
-    pub is_agreed_row : 64 < w → outcome ρ σ row ≡ agreed v
-    is_agreed_row k = (one-chosen ρ σ row v).1 (first, λ x z. only x z (ℕ_discrete x v) (dec_lt x v))
+    pub is_agreed_row : Next p (v + 1) None → outcome ρ σ row ≡ agreed v
+    is_agreed_row m = (one-chosen ρ σ row v).1 (first, λ x z. only x z (ℕ_discrete x v) (dec_lt x v))
       where
         only : (x : ℕ) → Chosen ρ σ row x → Dec (x ≡ v) → Dec (x < v) → x ≡ v
         only x z (yes e) d = e
         only x z (no e) (yes d) = absurd (over 1 v x n (found x z).0 d z)
-        only x z (no e) (no d) = absurd (over (v + 1) w x m (omega arith) (omega (arith, (found x z).1)) z)
+        only x z (no e) (no d) = absurd (missed (v + 1) x m (omega arith) z)
 
-    pub is_split_row : w ≤ 64 → outcome ρ σ row ≡ split
-    is_split_row k = (two-chosen ρ σ row).1 (v, w, first, is_chosen w (omega (arith, m.low)) k (m.here k), λ e. omega (arith, m.low))
+    pub is_split_row : (w : ℕ) → First p (v + 1) w → outcome ρ σ row ≡ split
+    is_split_row w m = (two-chosen ρ σ row).1 (v, w, first, is_chosen w (omega (arith, m.low)) m.high m.here, λ e. omega (arith, m.low))

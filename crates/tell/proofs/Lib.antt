@@ -1,5 +1,6 @@
 pub mod Votes
 pub mod Chosen
+pub mod Found
 pub mod Unvoted
 pub mod Lines
 pub mod Past

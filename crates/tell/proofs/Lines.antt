@@ -8,8 +8,8 @@ use native.Mathlib.Decide.{ℕ_discrete}
 use native.Mathlib.Omega.{arith}
 use borrow.Author.Tests.{ne_eqb}
 use lib.Dec.{T, eqb}
-use lib.ListN.{length, get_or, drop, set, length-append}
-use lib.Seq.{drop-cons, append_snoc, set-append_seam, get_or-set_same, get_or-set_other}
+use lib.ListN.{length, get_or, take, drop, set, length-append}
+use lib.Seq.{get_or-take, length-take-le, drop-cons, append_snoc, set-append_seam, get_or-set_same, get_or-set_other}
 use Rattle.rules.specs.Tests.{pick, keep, up_to}
 use Rattle.rules.specs.Words.{Room, State}
 use Rattle.rules.specs.Lent.{patch}
@@ -21,7 +21,7 @@ use Rattle.rules.proofs.Book.{reaches, before, entry_next, stops_ended}
 use Rattle.rules.specs.declared.Stop.{Stop}
 use Rattle.rules.specs.declared.Stop.TheVariants.{RowsEnded}
 use Rattle.tell.specs.declared.Rows.{Rows}
-use Rattle.tell.specs.Lines.{Reached, standing, line_of, lines, left, Put, Left, Written}
+use Rattle.tell.specs.Lines.{Reached, standing, line_of, lines, left, Left, Written}
 
 -- ---- an area written from its front
 
@@ -52,25 +52,26 @@ pub left-most : (tubes : List ℕ) (n k : ℕ) → length (left tubes n k) ≤ k
 unfolding left
 left-most tubes n k = omega (arith, length-keep (λ t. not (standing tubes n t)) (up_to k), length_up k)
 
-module _ (tubes : List ℕ) (n k : ℕ) (s area area' : List ℕ) (w w' : ℕ) (written : area ≡ patch s 0 (left tubes n k)) (counted : w ≡ length (left tubes n k))
-    (put : Put (standing tubes n (k + 1)) (k + 1) area w area' w') (fits : w < length s) where
-  abbrev l : List ℕ
-  l = left tubes n k
-
-  more : left tubes n (k + 1) ≡ l ++ pick (not (standing tubes n (k + 1))) ((k + 1) ∷ []) []
+module _ (tubes : List ℕ) (n k : ℕ) (s area : List ℕ) (w : ℕ) (written : area ≡ patch s 0 (left tubes n k)) (counted : w ≡ length (left tubes n k)) where
+  more : left tubes n (k + 1) ≡ left tubes n k ++ pick (not (standing tubes n (k + 1))) ((k + 1) ∷ []) []
   unfolding left
   more = rw add-one (keep-next (λ t. not (standing tubes n t)) k)
 
-  pub left-next : (area' ≡ patch s 0 (left tubes n (k + 1))) × (w' ≡ length (left tubes n (k + 1)))
-  left-next = go (standing tubes n (k + 1)) more put.area put.next
-    where
-      go : (b : Bool) → left tubes n (k + 1) ≡ l ++ pick (not b) ((k + 1) ∷ []) [] → area' ≡ pick b area (set area w (k + 1)) → w' ≡ pick b w (w + 1)
-          → (area' ≡ patch s 0 (left tubes n (k + 1))) × (w' ≡ length (left tubes n (k + 1)))
-      go true m a x = let e = m ∙ append-nil l in (a ∙ written ∙ ap (patch s 0) (sym e), x ∙ counted ∙ ap length (sym e))
-      go false m a x = (
-        a ∙ ap (λ (t : List ℕ). set t w (k + 1)) written ∙ ap (λ (i : ℕ). set (patch s 0 l) i (k + 1)) counted ∙ patch-next s l (k + 1) (omega arith) ∙ ap (patch s 0) (sym m),
-        x ∙ omega (arith, ap length m, length-append l ((k + 1) ∷ []), counted),
-      )
+  -- the next tube stands in a row
+  pub left_stands : standing tubes n (k + 1) ≡ true → Left tubes n (k + 1) s area w
+  left_stands e =
+      let m : left tubes n (k + 1) ≡ left tubes n k = more ∙ rw (e, append-nil) in
+      record { area = rw m written; number = rw m counted }
+
+  -- and it waits
+  pub left_waits : standing tubes n (k + 1) ≡ false → w < length s → Left tubes n (k + 1) s (set area w (k + 1)) (w + 1)
+  left_waits e fits =
+      let l = left tubes n k in
+      let m : left tubes n (k + 1) ≡ l ++ ((k + 1) ∷ []) = more ∙ rw e in
+      record {
+        area = rw m (ap (λ (t : List ℕ). set t w (k + 1)) written ∙ ap (λ (i : ℕ). set (patch s 0 l) i (k + 1)) counted ∙ patch-next s l (k + 1) (omega arith));
+        number = omega (arith, ap length m, length-append l ((k + 1) ∷ []), counted);
+      }
 
 -- ---- how far the rows reach
 
@@ -136,28 +137,37 @@ module _ (ρ : Room) (s : State) (tubes : List ℕ) where
       let e : line_of tubes n ≡ entry ρ s (suc n) = rw (f n (omega arith), standing-before n (row_tube ρ s (suc n)) (fewer n f)) (sym (entry_next ρ s n)) in
       rw (lines_entries n (fewer n f), e) (sym (map_next (entry ρ s) n))
 
-pub lines_book : (ρ : Room) (s : State) (r : Rows) → Reached ρ s r → lines r.tubes r.reach ≡ book_of ρ s
-unfolding book_of
-lines_book ρ s r f = lines_entries ρ s r.tubes r.reach f.tubes ∙ ap (λ (n : ℕ). map (entry ρ s) (up_to n)) f.reach
+module _ (ρ : Room) (s : State) (r : Rows) (f : Reached ρ s r) (fits : r.reach ≤ length r.tubes) where
+  -- the book's rows as a part of the array
+  abbrev pub rows : List ℕ
+  rows = take r.reach r.tubes
 
-pub left_waiting : (ρ : Room) (s : State) (r : Rows) (k : ℕ) → Reached ρ s r → length s.intake ≡ k → left r.tubes r.reach k ≡ waiting_of ρ s
-unfolding left waiting_of stands
-left_waiting ρ s r k f e =
-    ap (λ (p : ℕ → Bool). keep (λ t. not (p t)) (up_to k)) (fun_ext (λ t. standing-before ρ s r.tubes r.reach t f.tubes ∙ ap (λ (n : ℕ). before ρ s n t) f.reach))
-    ∙ ap (λ (n : ℕ). keep (λ t. not (before ρ s (reach ρ s) t)) (up_to n)) (sym e)
+  abbrev held : (i : ℕ) → i < r.reach → get_or rows i 0 ≡ row_tube ρ s (suc i)
+  held i h = get_or-take r.reach r.tubes i 0 h ∙ f.tubes i h
+
+  lines_book : lines rows r.reach ≡ book_of ρ s
+  unfolding book_of
+  lines_book = lines_entries ρ s rows r.reach held ∙ ap (λ (n : ℕ). map (entry ρ s) (up_to n)) f.reach
+
+  left_waiting : (k : ℕ) → length s.intake ≡ k → left rows r.reach k ≡ waiting_of ρ s
+  unfolding left waiting_of stands
+  left_waiting k e =
+      ap (λ (p : ℕ → Bool). keep (λ t. not (p t)) (up_to k)) (fun_ext (λ t. standing-before ρ s rows r.reach t held ∙ ap (λ (n : ℕ). before ρ s n t) f.reach))
+      ∙ ap (λ (n : ℕ). keep (λ t. not (before ρ s (reach ρ s) t)) (up_to n)) (sym e)
+
+  -- the book is written, by what its parts wrote
+  pub written : (k : ℕ) (p q p' q' : List ℕ) (w : ℕ) → length s.intake ≡ k → p' ≡ patch p 0 (lines rows (length rows)) → Left rows (length rows) k q q' w
+      → Written ρ s p q p' q' (record { rows = r.reach; waiting = w; stop = r.stop })
+  written k p q p' q' w e d l =
+      let n = length-take-le r.reach r.tubes fits in
+      let b = lines_book in
+      let v = left_waiting k e in record {
+        rows = rw n at d ∙ ap (patch p 0) b;
+        waiting = rw n at l.area ∙ ap (patch q 0) v;
+        entered = sym (length-lines rows r.reach) ∙ ap length b;
+        left = rw n at l.number ∙ ap length v;
+        stop = f.stop;
+      }
 
 pub reach-most : (ρ : Room) (s : State) (r : Rows) → Reached ρ s r → r.reach ≤ ρ.rows
 reach-most ρ s r f = omega (arith, f.reach, reaches ρ s)
-
--- the book is written, by what its parts wrote
-pub written : (ρ : Room) (s : State) (r : Rows) (k : ℕ) (p q p' q' : List ℕ) (w : ℕ) → Reached ρ s r → length s.intake ≡ k
-    → p' ≡ patch p 0 (lines r.tubes r.reach) → Left r.tubes r.reach k q q' w → Written ρ s p q p' q' (record { rows = r.reach; waiting = w; stop = r.stop })
-written ρ s r k p q p' q' w f e d l =
-    let b = lines_book ρ s r f in
-    let v = left_waiting ρ s r k f e in record {
-      rows = d ∙ ap (patch p 0) b;
-      waiting = l.area ∙ ap (patch q 0) v;
-      entered = sym (length-lines r.tubes r.reach) ∙ ap length b;
-      left = l.number ∙ ap length v;
-      stop = f.stop;
-    }

@@ -1,5 +1,5 @@
 -- A row's outcome as the code tells it.
-use Rattle.std.specs.Prelude.{◌≡◌, Bool, true, false, List, ℕ, ◌≤◌, ◌<◌, get_or}
+use Rattle.std.specs.Prelude.{◌≡◌, Bool, true, false, List, Option, None, Some, ℕ, ◌≤◌, ◌<◌, get_or}
 use Rattle.rules.specs.Tests.{any, any_below, all_in, bit}
 use Rattle.rules.specs.Words.{Room, State}
 use Rattle.rules.specs.Lent.{memory, room_of, read}
@@ -26,9 +26,14 @@ filled nodes quorums have = any (λ q. all_in nodes q (bit have)) quorums
 unfoldable pub carried : ℕ → List ℕ → List ℕ → ℕ → Bool
 carried nodes quorums votes v = any_below (λ b. filled nodes quorums (get_or votes (slot b v) 0)) 16
 
--- r is the first number from start on that passes, up to 64, and 65 if none does
-pub record Next (p : ℕ → Bool) (start r : ℕ) : Type 0 where
+-- r is the first number from start on that passes, up to 64
+pub record First (p : ℕ → Bool) (start r : ℕ) : Type 0 where
   pub low : start ≤ r
-  pub high : r ≤ 65
+  pub high : r ≤ 64
   pub none : (w : ℕ) → start ≤ w → w < r → p w ≡ false
-  pub here : r ≤ 64 → p r ≡ true
+  pub here : p r ≡ true
+
+-- the first number from start on that passes, up to 64, or none
+abbrev pub Next : (ℕ → Bool) → ℕ → Option ℕ → Type 0
+Next p start (Some r) = First p start r
+Next p start None = (w : ℕ) → start ≤ w → w ≤ 64 → p w ≡ false

@@ -1,5 +1,5 @@
 -- The book as the code keeps it: the tubes of its rows, the lines that they make, and the tubes that they leave waiting.
-use Rattle.std.specs.Prelude.{◌≡◌, Bool, not, List, [], ◌∷◌, ◌++◌, ℕ, zero, suc, ◌+◌, ◌<◌, eqb, length, get_or, set}
+use Rattle.std.specs.Prelude.{◌≡◌, Bool, not, List, [], ◌∷◌, ◌++◌, ℕ, zero, suc, ◌<◌, eqb, length, get_or}
 use Rattle.rules.specs.Tests.{pick, any_below, keep, up_to}
 use Rattle.rules.specs.Words.{Room, State}
 use Rattle.rules.specs.Lent.{patch}
@@ -30,11 +30,6 @@ lines tubes (suc n) = lines tubes n ++ (line_of tubes n ∷ [])
 -- the tubes from 1 to k that stand in none of the first n rows
 unfoldable pub left : List ℕ → ℕ → ℕ → List ℕ
 left tubes n k = keep (λ t. not (standing tubes n t)) (up_to k)
-
--- a tube is put at w, unless it stands in a row
-pub record Put (stood : Bool) (tube : ℕ) (s : List ℕ) (w : ℕ) (s' : List ℕ) (w' : ℕ) : Type 0 where
-  pub area : s' ≡ pick stood s (set s w tube)
-  pub next : w' ≡ pick stood w (w + 1)
 
 -- the waiting tubes are put into an area, and counted
 pub record Left (tubes : List ℕ) (n k : ℕ) (s s' : List ℕ) (w : ℕ) : Type 0 where

@@ -1,7 +1,5 @@
 -- Reading the message at a number: the part that is handed on is that message's window.
-use Prim.Native.Nat.{◌+◌, ◌-◌, ◌*◌}
-use mathlib.Core.Path.{◌≡◌}
-use native.Mathlib.Omega.{arith}
+use Rattle.std.proofs.Common.{◌≡◌, ◌+◌, ◌-◌, ◌*◌, arith}
 use Rattle.rules.specs.Lent.{msg_at}
 use Rattle.board.proofs.msg_at.Goals as goal
 

@@ -1,8 +1,5 @@
 -- Posting: a message that is there changes nothing, a new one is appended and the count raised.
-use Prim.Native.Nat.{◌*◌}
-use mathlib.Core.Path.{ap, sym, ◌∙◌}
-use native.Mathlib.Omega.{arith}
-use native.Mathlib.Numerals.{add-one}
+use Rattle.std.proofs.Common.{rules, ◌≡◌, ◌*◌, ap, sym, ◌∙◌, add-one}
 use Rattle.rules.specs.declared.Message.{Message}
 use Rattle.rules.specs.Lent.{memory, patch, bytes_of, meaning, raised}
 use Rattle.board.proofs.Bytes.{post_old, post_new}
@@ -11,16 +8,14 @@ use Rattle.board.proofs.post.Goals as goal
 pub returns-then-on_board : goal.returns-then-on_board
 returns-then-on_board c x y =
     let a = c.args in
-    post_old (memory a.house.now a.board.now x y) (meaning a.m) (sym c.on_board.ensures ∙ c.if-on_board.true)
-
-pub append-requires : goal.append-requires
-append-requires c =
-    let l = c.requires.fresh (sym c.on_board.ensures ∙ c.if-on_board.false) in
-    record { n_bound = omega (arith, c.requires.capacity); n_in_bounds = omega (arith, c.requires.room) }
+    let n : c.from-n.result ≡ a.house.now.count = search rules in
+    let h = sym c.on_board.ensures ∙ c.if-on_board.true in
+    post_old (memory a.house.now a.board.now x y) (meaning a.m) (rw n at h)
 
 pub returns : goal.returns
 returns c x y =
     let a = c.args in
-    let n = sym c.on_board.ensures ∙ c.if-on_board.false in
-    let p = c.append.ensures ∙ ap (λ (t : Message). patch a.board.now (40 * a.house.now.count) (bytes_of t)) (sym c.requires.own) in
-    (λ i. memory ((c.raise.ensures ∙ ap (raised a.house.now) (add-one a.house.now.count)) i) (p i) x y) ∙ post_new (memory a.house.now a.board.now x y) (meaning a.m) n
+    let n : c.from-n.result ≡ a.house.now.count = search rules in
+    let h = sym c.on_board.ensures ∙ c.if-on_board.false in
+    let p = rw n at c.append.ensures ∙ ap (λ (t : Message). patch a.board.now (40 * a.house.now.count) (bytes_of t)) (sym c.requires.own) in
+    (λ i. memory ((c.raise.ensures ∙ ap (raised a.house.now) (add-one a.house.now.count)) i) (p i) x y) ∙ post_new (memory a.house.now a.board.now x y) (meaning a.m) (rw n at h)

@@ -1,6 +1,5 @@
 -- `write_closing` meets its contract: rows, waiting tubes, a split and totals, one after another, are the closing lines.
 use mathlib.Core.Path.{◌∙◌}
-use Prim.Native.Nat.{◌≤◌}
 use native.Mathlib.Nat.{zero-add}
 use native.Mathlib.Omega.{arith}
 use lib.ListN.{length}
@@ -10,10 +9,10 @@ use Rattle.closing.proofs.Writing.{wrote_on}
 use Rattle.closing.proofs.Rows.{rows_known, parts}
 use Rattle.closing.proofs.write_closing.Goals as goal
 
-pub write_rows-rows-requires : goal.write_rows-rows-requires
-write_rows-rows-requires c =
-    let a = c.args in
-    record { rows = rows_known c.requires.known.0 c.requires.known.1 a.tubes a.reach c.requires.known.2.rows c.requires.known.2.few; in_bounds = omega (arith, c.requires.in_bounds) }
+pub invariant_of-closing : goal.invariant_of-closing
+invariant_of-closing c =
+    let k = c.requires.known in
+    record { rows = rows_known k.0 k.1 c.args.tubes c.args.reach k.2.rows k.2.few; most = k.2.most }
 
 pub returns : goal.returns
 returns c =
@@ -23,17 +22,15 @@ returns c =
     let rows = c.write_rows-rows in
     let waiting = c.write_waiting-waiting in
     let stop = c.write_split-at in
-    let entered = c.count_entered-entered in
-    let left = c.count_waiting-left in
-    let last = c.totals_line in
-    let short : last.result ≤ 8192 = omega (arith, rows.ensures.upper_bound, waiting.ensures.upper_bound, stop.ensures.upper_bound, last.ensures.upper_bound, few.few, few.most) in
-    record {
+    let entered = c.entered-entered in
+    let left = c.waiting in
+    let last = c.totals_line in record {
       value = λ ρ s g.
-          let whole = wrote_on (omega (arith, room)) (rows.ensures.wrote ρ s g.rows g.scans)
-          (wrote_on (omega (arith, room, rows.ensures.upper_bound, rows.auto.out, few.few)) (waiting.ensures.wrote ρ s g.rows g.count g.scans)
+          let whole = wrote_on (omega (arith, room)) (rows.ensures.wrote ρ s g)
+          (wrote_on (omega (arith, room, rows.ensures.upper_bound, rows.auto.out, few.few)) (waiting.ensures.wrote ρ s g)
           (wrote_on (omega (arith, room, rows.ensures.upper_bound, rows.auto.out, waiting.ensures.upper_bound, waiting.auto.out, few.few, few.most)) stop.ensures.wrote last.ensures.wrote)) in
           let all : Wrote a.out.now 0 (closing_of ρ s) last.result last.new.out =
-          rw (parts ρ s a.reach a.scanned entered.result left.result a.split g.rows.reached g.count g.stop (entered.ensures.value ρ s g.rows) (left.ensures ρ s g.rows g.count)) at whole in
+          rw (parts ρ s a.reach a.scanned entered.result left.result a.split g.rows.reached g.count g.stop (entered.ensures.value ρ s g) (left.ensures ρ s g)) at whole in
           (all.ends ∙ zero-add (length (closing_of ρ s)), all.area);
-      upper_bound = short;
+      upper_bound = omega (arith, rows.ensures.upper_bound, waiting.ensures.upper_bound, stop.ensures.upper_bound, last.ensures.upper_bound, few.few, few.most);
     }

@@ -1,8 +1,6 @@
 -- The bytes do not stand among those before.
-use mathlib.Core.Path.{◌≡◌, ap, ◌∙◌}
+use mathlib.Core.Path.{ap, ◌∙◌}
 use mathlib.Core.Bool.{not}
-use Prim.Native.Nat.{◌+◌, ◌-◌, ◌*◌}
-use native.Mathlib.Omega.{arith}
 use Rattle.rules.specs.Tests.{eqs}
 use Rattle.rules.specs.Lent.{window}
 use Rattle.board.specs.Asked.{standing}
@@ -13,6 +11,4 @@ pub returns : goal.returns
 unfolding standing
 returns c =
     let a = c.args in
-    let k = a.k in
-    let e : 40 * k + 40 - 40 * k ≡ 40 = omega arith in
-    ap not (rw e at c.stands.ensures) ∙ each_not (λ j. eqs (window 40 j a.board.now) (window 40 k a.board.now)) k
+    ap not (rw c.bytes_at.ensures.bytes at c.stands.ensures) ∙ each_not (λ j. eqs (window 40 j a.board.now) (window 40 a.k a.board.now)) a.k

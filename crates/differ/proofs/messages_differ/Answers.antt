@@ -9,47 +9,34 @@ use Rattle.differ.proofs.Slots.{mix-low, table_none, probed_new, table_more, end
 use Rattle.differ.proofs.messages_differ.Goals as goal
 
 pub loop-k-init : goal.loop-k-init
-loop-k-init c = (omega arith, (refl, table_none c.args.board.now))
+loop-k-init c = record { new = refl; table = table_none c.args.board.now }
 
-pub slice_bounds-probe-end : goal.slice_bounds-probe-end
-slice_bounds-probe-end c = sym c.loop-k.invariant.1.1.long
+pub probe-at-requires-clause-h_bound : goal.probe-at-requires-clause-h_bound
+probe-at-requires-clause-h_bound c = omega (arith, c.first_slot-h.ensures, mix-low (window 40 c.loop-k.k c.args.board.now))
 
-pub probe-at-requires : goal.probe-at-requires
-probe-at-requires c =
-    let t = c.loop-k.invariant.1.1 in
-    let m = mix-low (window 40 c.loop-k.k c.args.board.now) in
-    record { k_bound = (omega arith, omega arith); slots_len = (t.long, t.low); h_bound = omega (arith, c.first_slot-h.ensures) }
-
-pub settled-requires : goal.settled-requires
-settled-requires c =
+pub settled-requires-clause-k_value : goal.settled-requires-clause-k_value
+settled-requires-clause-k_value c =
     let a = c.args in
     let q : Probed a.board.now c.loop-k.slots c.loop-k.k (slot_of a.board.now c.loop-k.k) c.probe-at.result = rw c.first_slot-h.ensures at c.probe-at.ensures in
-    record { k_bound = (omega arith, omega arith); k_value = (probed_new a.board.now c.loop-k.slots c.loop-k.k c.probe-at.result c.loop-k.invariant.1.1 q, q.equal) }
+    (probed_new a.board.now c.loop-k.slots c.loop-k.k c.probe-at.result c.loop-k.invariant.table q, q.equal)
 
 pub returns-then-not-settled : goal.returns-then-not-settled
 returns-then-not-settled c =
     let a = c.args in
     sym (board_differs a.board.now a.n c.requires.plain ∙ each_stop (new_message a.board.now) c.loop-k.k a.n (omega arith) (sym c.settled.ensures ∙ c.if-not-settled.true))
 
-pub offset_bounds-slots-at : goal.offset_bounds-slots-at
-offset_bounds-slots-at c =
-    let e = ended c.probe-at.result _ c.probe-at.ensures.equal (sym c.settled.ensures ∙ c.if-not-settled.false) in
-    omega arith
-
-pub bounds-slots-at : goal.bounds-slots-at
-bounds-slots-at c =
-    let e = ended c.probe-at.result _ c.probe-at.ensures.equal (sym c.settled.ensures ∙ c.if-not-settled.false) in
-    omega (arith, c.loop-k.invariant.1.1.long)
-
 pub loop-k-preserved : goal.loop-k-preserved
 loop-k-preserved c =
     let a = c.args in
     let e = sym c.settled.ensures ∙ c.if-not-settled.false in
     let q : Probed a.board.now c.loop-k.slots c.loop-k.k (slot_of a.board.now c.loop-k.k) c.probe-at.result = rw c.first_slot-h.ensures at c.probe-at.ensures in
-    (omega arith, (each_more (new_message a.board.now) c.loop-k.k c.loop-k.invariant.1.0 e, table_more a.board.now c.loop-k.slots c.loop-k.k c.probe-at.result c.loop-k.invariant.1.1 q (ended c.probe-at.result _ q.equal e)))
+    record {
+      new = each_more (new_message a.board.now) c.loop-k.k c.loop-k.invariant.new e;
+      table = table_more a.board.now c.loop-k.slots c.loop-k.k c.probe-at.result c.loop-k.invariant.table q (ended c.probe-at.result _ q.equal e);
+    }
 
 pub returns : goal.returns
 returns c =
     let a = c.args in
     let e : c.loop-k.k ≡ a.n = omega arith in
-    sym (board_differs a.board.now a.n c.requires.plain ∙ rw e at c.loop-k.invariant.1.0)
+    sym (board_differs a.board.now a.n c.requires.plain ∙ rw e at c.loop-k.invariant.new)

@@ -1,10 +1,7 @@
 -- Slot by slot: every slot passed has another message.
-use Prim.Native.Nat.{ℕ, ◌-◌, ◌≤◌, ◌<◌}
+use Prim.Native.Nat.{ℕ, ◌≤◌, ◌<◌}
 use Rattle.differ.specs.Differ.{Other}
 use Rattle.differ.proofs.probe.Given as goal
 
 abbrev pub invariant-loop-i : goal.invariant-loop-i
-invariant-loop-i l = (l.h ≤ l.i) × ((l.i ≤ 3072) × ((t : ℕ) → l.h ≤ t → t < l.i → Other l.board l.slots l.k t))
-
-abbrev pub decreases-loop-i : goal.decreases-loop-i
-decreases-loop-i l = 3072 - l.i
+invariant-loop-i l = (t : ℕ) → l.h ≤ t → t < l.i → Other l.board l.slots l.k t

@@ -2,13 +2,8 @@
 use mathlib.Core.Path.{◌∙◌}
 use native.Mathlib.Omega.{arith}
 use Rattle.rules.specs.Lent.{heard_form}
-use Rattle.form.proofs.Says.{board_fits}
 use Rattle.form.proofs.Heard.{heard_formed}
 use Rattle.form.proofs.heard_ok.Goals as goal
-
-pub promises-p-requires : goal.promises-p-requires
-promises-p-requires c =
-    let parts = board_fits c.args.h.now c.args.board.now c.requires.h_value c.requires.capacity_in_bounds in record { n_bound = parts.0; n_in_bounds = parts.1 }
 
 pub returns : goal.returns
 unfolding heard_form

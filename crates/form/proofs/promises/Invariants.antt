@@ -1,10 +1,6 @@
 -- Bit by bit: after k messages the bits are those of the 1b messages among them.
-use Prim.Native.Nat.{◌-◌, ◌≤◌}
 use Rattle.form.specs.Form.{Promises}
 use Rattle.form.proofs.promises.Given as goal
 
 abbrev pub invariant-loop-k : goal.invariant-loop-k
-invariant-loop-k l = (l.k ≤ l.n) × Promises l.board l.k l.out
-
-abbrev pub decreases-loop-k : goal.decreases-loop-k
-decreases-loop-k l = l.n - l.k
+invariant-loop-k l = Promises l.board l.k l.out

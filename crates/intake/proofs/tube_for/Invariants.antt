@@ -1,12 +1,8 @@
-use mathlib.Core.Path.{◌≡◌}
-use mathlib.Core.Bool.{false}
-use Prim.Native.Nat.{◌≤◌, ◌-◌}
+-- The search for a scan: none of those passed over is it.
+use Rattle.std.proofs.Common.{◌≡◌, false}
 use Rattle.rules.specs.Lent.{intake_of}
 use Rattle.rules.specs.Steps.{scanned_in}
 use Rattle.intake.proofs.tube_for.Given as goal
 
 abbrev pub invariant-loop-i : goal.invariant-loop-i
-invariant-loop-i l = (l.i ≤ l.n) × (scanned_in (intake_of l.stations l.serials l.i) l.station l.serial ≡ false)
-
-abbrev pub decreases-loop-i : goal.decreases-loop-i
-decreases-loop-i l = l.n - l.i
+invariant-loop-i l = scanned_in (intake_of l.stations l.serials l.i) l.station l.serial ≡ false

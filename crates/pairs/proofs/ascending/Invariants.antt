@@ -1,13 +1,7 @@
--- Ascending: no neighbours passed over are out of order.
-use Prim.Native.Nat.{◌≤◌, ◌-◌}
-use mathlib.Core.Path.{◌≡◌}
-use mathlib.Core.Bool.{false}
-use Rattle.rules.specs.Tests.{any_below}
-use Rattle.pairs.proofs.Arrays.{falls}
+-- Ascending: the pairs passed over do.
+use Rattle.std.proofs.Common.{◌≡◌, true}
+use Rattle.rules.specs.Lent.{pairs_of, ascend}
 use Rattle.pairs.proofs.ascending.Given as goal
 
 abbrev pub invariant-loop-i : goal.invariant-loop-i
-invariant-loop-i l = (l.i ≤ l.count - 1) × (any_below (falls l.pairs) l.i ≡ false)
-
-abbrev pub decreases-loop-i : goal.decreases-loop-i
-decreases-loop-i l = l.count - l.i
+invariant-loop-i l = ascend (pairs_of l.i l.pairs) ≡ true

@@ -1,7 +1,5 @@
 -- Each pair passes: none of those passed over fails.
-use mathlib.Core.Path.{◌≡◌, ap, sym, ◌∙◌}
-use mathlib.Core.Bool.{not}
-use native.Mathlib.Omega.{arith}
+use Rattle.std.proofs.Common.{◌≡◌, not, ap, sym, ◌∙◌, arith}
 use Rattle.rules.proofs.Scan.{pair_at, below_more, below_here}
 use Rattle.pairs.specs.Pairs.{passes}
 use Rattle.pairs.proofs.Arrays.{each_below}
@@ -16,11 +14,10 @@ returns-then-not-pass c =
 pub loop-i-preserved : goal.loop-i-preserved
 loop-i-preserved c =
     let a = c.args in
-    let e = ap not (sym c.pass.ensures) ∙ (ap not c.if-not-pass.false) in
-    (omega arith, below_more (λ k. not (passes a.ask (pair_at a.pairs k))) c.loop-i.i c.loop-i.invariant.1 e)
+    below_more (λ k. not (passes a.ask (pair_at a.pairs k))) c.loop-i.i c.loop-i.invariant (ap not (sym c.pass.ensures) ∙ (ap not c.if-not-pass.false))
 
 pub returns : goal.returns
 returns c =
     let a = c.args in
     let e : c.loop-i.i ≡ a.count = omega arith in
-    sym (each_below (passes a.ask) a.pairs a.count ∙ ap not (rw e at c.loop-i.invariant.1))
+    sym (each_below (passes a.ask) a.pairs a.count ∙ ap not (rw e at c.loop-i.invariant))

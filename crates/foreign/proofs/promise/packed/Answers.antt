@@ -1,14 +1,18 @@
--- Pairs of any size in form: more than sixteen are not, nor is an array with a number above 255, and else its bytes decide.
-use Rattle.std.proofs.Common.{◌≡◌, sym, ◌∙◌, arith, rules, length}
-use Rattle.pairs.proofs.Arrays.{over}
-use Rattle.foreign.proofs.Bytes.{not_bytes}
+-- Sixteen pairs at most, of bytes: the bytes decide, which are the same numbers.
+use Rattle.std.proofs.Common.{◌≡◌, ap, sym, ◌∙◌, ◌&&◌, List, ℕ, rules}
+use Rattle.rules.specs.Lent.{pairs_of, pairs_in}
+use Rattle.rules.specs.Replies.{pairs_plain}
+use Rattle.foreign.proofs.Bytes.{fit_whole}
 use Rattle.foreign.proofs.promise.packed.Goals as goal
 
-pub returns-then-count-gt16 : goal.returns-then-count-gt16
-returns-then-count-gt16 c = let a = c.args in over a.pairs a.count (omega arith)
+pub returns-then-not-pairs_in : goal.returns-then-not-pairs_in
+returns-then-not-pairs_in c =
+    let k = c.args.count in
+    let same = c.narrowed-bytes.ensures ∙ fit_whole 32 c.args.pairs (search rules) in
+    sym (ap (λ (l : List ℕ). pairs_in (pairs_of k l) && pairs_plain k l) same) ∙ sym c.pairs_in.ensures ∙ c.if-not-pairs_in.true
 
-pub returns-then-not-all_bytes : goal.returns-then-not-all_bytes
-returns-then-not-all_bytes c =
-    let a = c.args in
-    let len : length a.pairs ≡ 32 = search rules in
-    not_bytes a.pairs a.count len (sym c.all_bytes.ensures ∙ c.if-not-all_bytes.true)
+pub returns : goal.returns
+returns c =
+    let k = c.args.count in
+    let same = c.narrowed-bytes.ensures ∙ fit_whole 32 c.args.pairs (search rules) in
+    (sym (ap (λ (l : List ℕ). pairs_in (pairs_of k l) && pairs_plain k l) same) ∙ sym c.pairs_in.ensures ∙ c.if-not-pairs_in.false, same)

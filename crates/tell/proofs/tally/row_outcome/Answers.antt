@@ -1,21 +1,16 @@
 -- What a row came to: the first chosen tube, and the next one after it, tell none, one or two.
 use mathlib.Core.Path.{sym}
-use native.Mathlib.Omega.{arith}
 use Rattle.tell.proofs.Chosen.{is_unchosen, is_agreed_row, is_split_row}
 use Rattle.tell.proofs.tally.row_outcome.Goals as goal
 
-pub returns-then-v-gt64 : goal.returns-then-v-gt64
-returns-then-v-gt64 c cells heard =
-    sym (is_unchosen c.args.h c.args.board.now cells heard c.row_votes-votes.result c.args.row c.requires c.row_votes-votes.ensures c.next_chosen-v.result c.next_chosen-v.ensures c.if-v-gt64.true)
+pub returns-in_default : goal.returns-in_default
+returns-in_default c cells heard =
+    sym (is_unchosen c.args.h.now c.args.board.now cells heard c.row_votes-votes.result c.args.row c.requires c.row_votes-votes.ensures c.in_default.ensures)
 
-pub next_chosen-w-requires : goal.next_chosen-w-requires
-next_chosen-w-requires c =
-    record { nodes_bound = (c.requires.nodes, c.requires.listed); quorums_value = c.requires.peopled; le_start = (omega arith, omega arith) }
+pub returns-in-None : goal.returns-in-None
+returns-in-None c cells heard =
+    sym (is_agreed_row c.args.h.now c.args.board.now cells heard c.row_votes-votes.result c.args.row c.requires c.row_votes-votes.ensures c.in-Some.v c.in-Some.ensures c.in-None.ensures)
 
-pub returns-then-w-gt64 : goal.returns-then-w-gt64
-returns-then-w-gt64 c cells heard =
-    sym (is_agreed_row c.args.h c.args.board.now cells heard c.row_votes-votes.result c.args.row c.requires c.row_votes-votes.ensures c.next_chosen-v.result c.next_chosen-w.result c.next_chosen-v.ensures (omega arith) c.next_chosen-w.ensures c.if-w-gt64.true)
-
-pub returns : goal.returns
-returns c cells heard =
-    sym (is_split_row c.args.h c.args.board.now cells heard c.row_votes-votes.result c.args.row c.requires c.row_votes-votes.ensures c.next_chosen-v.result c.next_chosen-w.result c.next_chosen-v.ensures (omega arith) c.next_chosen-w.ensures c.if-w-gt64.false)
+pub returns-in-Some-next_chosen : goal.returns-in-Some-next_chosen
+returns-in-Some-next_chosen c cells heard =
+    sym (is_split_row c.args.h.now c.args.board.now cells heard c.row_votes-votes.result c.args.row c.requires c.row_votes-votes.ensures c.in-Some.v c.in-Some.ensures _ c.in-Some-next_chosen.ensures)

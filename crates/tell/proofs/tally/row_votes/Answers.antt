@@ -1,32 +1,17 @@
 -- The votes of a row: those of the messages passed are counted.
-use mathlib.Core.Path.{◌≡◌, refl, ap, ◌∙◌}
-use lib.ListN.{length}
+use mathlib.Core.Path.{refl, ap, ◌∙◌}
 use native.Mathlib.Omega.{arith}
-use borrow.Author.Rules.{rules}
+use lib.ListN.{length}
 use Rattle.rules.specs.Lent.{msg_at}
-use Rattle.tell.proofs.Votes.{within, none_counted, length-voted, counted_next}
+use Rattle.tell.proofs.Votes.{none_counted, length-voted, counted_next}
 use Rattle.tell.proofs.tally.row_votes.Goals as goal
 
 pub loop-k-init : goal.loop-k-init
-loop-k-init c = (search rules, (refl, none_counted c.args.row))
-
-pub add_vote-requires : goal.add_vote-requires
-add_vote-requires c =
-    within c.args.h c.args.board.now c.loop-k.k c.requires (omega arith)
+loop-k-init c = record { size = refl; votes = none_counted c.args.row }
 
 pub loop-k-preserved : goal.loop-k-preserved
 loop-k-preserved c =
     let s = c.args.board.now in
-    let k = c.loop-k.k in
-    let e = c.add_vote.ensures in (
-      omega arith,
-      (
-        ap length e ∙ length-voted c.loop-k.votes c.args.row (msg_at s k) ∙ c.loop-k.invariant.1.0,
-        rw e (counted_next c.args.h s c.loop-k.votes c.args.row k c.requires (omega arith) c.loop-k.invariant.1.0 c.loop-k.invariant.1.1),
-      ),
-    )
-
-pub returns : goal.returns
-returns c =
-    let e : c.loop-k.k ≡ c.args.h.count = omega arith in
-    rw e at c.loop-k.invariant.1.1
+    let l = c.loop-k in
+    let e = c.add_vote.ensures in
+    record { size = ap length e ∙ length-voted l.votes c.args.row (msg_at s l.k) ∙ l.invariant.size; votes = rw e (counted_next c.args.h.now s l.votes c.args.row l.k c.requires (omega arith) l.invariant.size l.invariant.votes) }

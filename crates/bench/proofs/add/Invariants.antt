@@ -1,9 +1,0 @@
--- Adding up an area: each turn reads one byte more.
-use Rattle.std.proofs.Common.{length, ◌-◌, ◌≤◌}
-use Rattle.bench.proofs.add.Given as goal
-
-abbrev pub invariant-loop-i : goal.invariant-loop-i
-invariant-loop-i l = l.i ≤ length l.area
-
-abbrev pub decreases-loop-i : goal.decreases-loop-i
-decreases-loop-i l = length l.area - l.i

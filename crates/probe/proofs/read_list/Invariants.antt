@@ -1,9 +1,0 @@
--- Filling a list: each turn fills one place more.
-use Rattle.std.proofs.Common.{length, ◌-◌, ◌≡◌, ◌≤◌}
-use Rattle.probe.proofs.read_list.Given as goal
-
-abbrev pub invariant-loop-i : goal.invariant-loop-i
-invariant-loop-i g l = (l.i ≤ length l.list) × (length l.list ≡ length l.initial.list)
-
-abbrev pub decreases-loop-i : goal.decreases-loop-i
-decreases-loop-i g l = length l.list - l.i
