@@ -1,10 +1,9 @@
 -- A foreign 1b within limits: the parts of its test 6, and how it is stored.
-use Rattle.std.proofs.Common.{◌≡◌, refl, sym, ◌∙◌, Bool, true, false, ◌&&◌, List, ℕ, T, leb, ltb}
+use Rattle.std.proofs.Common.{◌≡◌, refl, sym, ◌∙◌, Bool, true, false, ◌&&◌, List, ℕ, leb, ltb}
 use Rattle.rules.specs.Words.{height_of, bal_in, Room}
 use Rattle.rules.specs.Lent.{pairs_of, pair_bytes, stored, row_in, pairs_in, limits}
 use Rattle.rules.specs.Steps.{p1b, posted}
 use Rattle.rules.specs.Replies.{pairs_plain, post_in}
-use Rattle.rules.specs.declared.Message.{Message}
 use Rattle.rules.proofs.Sound.{and_r}
 use Rattle.rules.proofs.Scan.{eqs_means}
 use Rattle.rules.proofs.Forms.{length_pairs, height_back}

@@ -40,16 +40,15 @@ pub fn message(h: &House, post: Post, pairs: [u32; 32]) -> Option<Message>
 }
 
 // Test 7: each non-zero tube of a stored message is on intake; its kind has none where it is 0.
+#[tactic(auto, using(crate::proofs::Posts::own_tubes))]
 pub fn tubes_in(h: &House, m: Message) -> bool
     requires own { Own m }
     requires count { m.count ≤ 16 }
     ensures { result ≡ scanned h.now.tubes (meaning m) }
 {
-    if !((m.tube <= h.tubes) & (m.mval <= h.tubes)) {
-        return false;
-    }
-    let pairs = m.pairs;
-    pairs::each(pairs, m.count, pairs::Ask::Scanned(h.tubes))
+    m.tube <= h.tubes
+        && m.mval <= h.tubes
+        && pairs::each(m.pairs, m.count, pairs::Ask::Scanned(h.tubes))
 }
 
 pub fn judge_foreign(m: Lent, post: Post, pairs: [u32; 32]) -> Result<Message, Refusal>

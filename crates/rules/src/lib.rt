@@ -124,7 +124,12 @@ impl<'a> Lent<'a> {
     pub fn new(house: &'a House, board: &'a [u8], cells: &'a [u8], heard: &'a [u8]) -> Self
         ensures { lent result ≡ memory house.now board.now cells.now heard.now }
     {
-        Lent { house, board, cells, heard }
+        Lent {
+            house,
+            board,
+            cells,
+            heard,
+        }
     }
 }
 

@@ -1,6 +1,5 @@
 -- A 1b: numbers within limits fit their bytes, and its pair array is that of the pairs it counts.
-use Rattle.std.proofs.Common.{◌≡◌, refl, ap, sym, ◌∙◌, Bool, true, false, ◌&&◌, leb, arith}
-use Rattle.rules.specs.Words.{height_of}
+use Rattle.std.proofs.Common.{refl, true, false, arith}
 use Rattle.rules.specs.Lent.{room_of}
 use Rattle.foreign.proofs.Bytes.{count_in}
 use Rattle.foreign.proofs.Within.{tested, stored_1b}

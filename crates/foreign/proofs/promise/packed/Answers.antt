@@ -1,5 +1,5 @@
 -- Sixteen pairs at most, of bytes: the bytes decide, which are the same numbers.
-use Rattle.std.proofs.Common.{◌≡◌, ap, sym, ◌∙◌, ◌&&◌, List, ℕ, rules}
+use Rattle.std.proofs.Common.{ap, sym, ◌∙◌, ◌&&◌, List, ℕ, rules}
 use Rattle.rules.specs.Lent.{pairs_of, pairs_in}
 use Rattle.rules.specs.Replies.{pairs_plain}
 use Rattle.foreign.proofs.Bytes.{fit_whole}
