@@ -3,7 +3,7 @@
 
 ghost use Rattle.std.specs.Prelude.{◌≡◌, ◌<◌, IsTrue};
 ghost use Rattle.rules.specs.Words.{fresh};
-ghost use Rattle.rules.specs.Lent.{stored_cell, kind_byte, room_of, row_in};
+ghost use Rattle.rules.specs.Lent.{memory, lent, stored_cell, kind_byte, room_of, row_in};
 ghost use Rattle.rules.specs.Replies.{number_of, stop_of, Named};
 
 // A node number, from 0.

@@ -3,7 +3,7 @@ use mathlib.Core.Path.{ap}
 use Rattle.rules.specs.Steps.{Call}
 use Rattle.step.specs.declared.Step.{Step}
 use Rattle.step.specs.Given.{call_of}
-use Rattle.calls.proofs.Call.{as_said}
+use Rattle.judge.proofs.Call.{as_said}
 use Rattle.calls.proofs.steps.take.Goals as goal
 
 pub returns-in-Scan : goal.returns-in-Scan
