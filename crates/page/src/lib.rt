@@ -1,8 +1,7 @@
 // The sheet's headings as they are read, line by line, and the opening of the room that they ask for.
 #![tactic(auto)]
 
-ghost use Rattle.std.specs.Prelude.{◌≡◌, [], eqb};
-ghost use Rattle.rules.specs.Tests.{pick};
+ghost use Rattle.std.specs.Prelude.{◌≡◌, []};
 ghost use Rattle.rules.specs.Lent.{memory};
 ghost use Rattle.page.specs.Sheet as sheet;
 ghost use Rattle.page.specs.Held.{due_of, sets_of, heads_of, Started};
@@ -24,18 +23,6 @@ pub enum Due {
     Weaks, // one more weak set, or the line that begins the steps
     Step, // the room is open, and a step is due
     Nothing, // the sheet has ended
-}
-
-impl Due {
-    // What is due after a line that is not the heading due: it begins the steps after a weak set, and before that it is bad.
-    fn past(self) -> Due
-        ensures { due_of result ≡ pick (eqb (due_of self) 6) 7 8 }
-    {
-        match self {
-            Due::Weaks => Due::Step,
-            _ => Due::Nothing,
-        }
-    }
 }
 
 // The sets of one list.
@@ -104,12 +91,16 @@ pub fn unread() -> Heads
 }
 
 // The headings after a line while a heading is due: one that ends the headings is not kept.
+// After a weak set any line of another form begins the steps, and before that it is bad.
 #[tactic(auto, unfolding(crate::specs::Sheet::headed, crate::specs::Sheet::kept, crate::specs::Sheet::next))]
 pub fn headed(heads: &mut Heads, line: Line)
     ensures { heads_of heads.new ≡ sheet.headed (heads_of heads.old) line }
 {
     let Line::Heading(heading) = line else {
-        heads.due = heads.due.past();
+        heads.due = match heads.due {
+            Due::Weaks => Due::Step,
+            _ => Due::Nothing,
+        };
         return;
     };
     match (heads.due, heading) {
@@ -139,7 +130,8 @@ pub fn headed(heads: &mut Heads, line: Line)
             heads.due = Due::Weaks;
         }
         (Due::Weaks, Heading::Weak(n)) => heads.weaks.put(n),
-        (due, _) => heads.due = due.past(),
+        (Due::Weaks, _) => heads.due = Due::Step,
+        _ => heads.due = Due::Nothing,
     }
 }
 
