@@ -10,8 +10,8 @@ ghost use Rattle.tell.specs.Past.{BookSettled};
 
 pub mod asks; // asks.rt: asking a row, and the book
 pub mod opening; // opening.rt: opening a room
-
-
+pub mod posts; // posts.rt: the foreign post
+pub mod steps; // steps.rt: a step of any kind
 pub mod votes; // votes.rt: 2av and 2b
 
 use judge::{node, other, send};

@@ -3,7 +3,7 @@ use Rattle.std.proofs.Common.{◌≡◌, refl, ap, sym, ◌∙◌, Bool, true, f
 use Rattle.rules.specs.Tests.{pick, first}
 use Rattle.rules.specs.Lent.{Memory, room_of, read, Typed, long}
 use Rattle.rules.specs.Steps.{Call}
-use Rattle.rules.specs.Replies.{rules, areas, gate, reply, after, number_of, values_of, answer_of, bare, tell, answer, Did}
+use Rattle.rules.specs.Replies.{Answer, rules, areas, gate, reply, after, number_of, values_of, answer_of, bare, tell, answer, Did}
 use Rattle.rules.specs.declared.Refusal.{Refusal}
 use Rattle.rules.specs.declared.Reply.{Reply}
 use Rattle.rules.proofs.Sound.{and_l, Clear, clear}
@@ -59,3 +59,7 @@ module _ (m : Memory) (c : Call) where
   pub done : (a : Reply) → reply m c ≡ 0 → values_of a ≡ tell (room_of m.house) (read m) c → {n : Memory} → n ≡ after m c → Did m c (answer_of (Ok a)) n
   unfolding answer
   done a e f g = record { answer = f ∙ rw (eq-eqb (reply m c) 0 e); memory = g }
+
+-- the same call by another name
+pub as_said : (m : Memory) {c d : Call} {a : Answer} {n : Memory} → c ≡ d → Did m d a n → Did m c a n
+as_said m e f = record { answer = f.answer ∙ ap (answer m) (sym e); memory = f.memory ∙ ap (after m) (sym e) }

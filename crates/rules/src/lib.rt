@@ -3,7 +3,7 @@
 
 ghost use Rattle.std.specs.Prelude.{◌≡◌, ◌<◌, IsTrue};
 ghost use Rattle.rules.specs.Words.{fresh};
-ghost use Rattle.rules.specs.Lent.{stored_cell, kind_byte, room_of, row_in};
+ghost use Rattle.rules.specs.Lent.{memory, lent, stored_cell, kind_byte, room_of, row_in};
 ghost use Rattle.rules.specs.Replies.{number_of, stop_of, Named};
 
 // A node number, from 0.
@@ -180,24 +180,24 @@ pub enum Reply {
 impl From<Kind> for u8 {
     ghost from_gives = { λ x r. r ≡ kind_byte x };
 
-    fn from(x: Kind) -> u8 {
-        x as u8
+    fn from(kind: Kind) -> u8 {
+        kind as u8
     }
 }
 
 impl From<Refusal> for u8 {
     ghost from_gives = { λ x r. r ≡ number_of x };
 
-    fn from(x: Refusal) -> u8 {
-        x as u8
+    fn from(refusal: Refusal) -> u8 {
+        refusal as u8
     }
 }
 
 impl From<Stop> for u8 {
     ghost from_gives = { λ x r. r ≡ stop_of x };
 
-    fn from(x: Stop) -> u8 {
-        x as u8
+    fn from(stop: Stop) -> u8 {
+        stop as u8
     }
 }
 
