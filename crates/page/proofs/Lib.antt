@@ -1,3 +1,2 @@
-pub mod Listed
-pub mod Order
+pub mod Sets
 pub mod Started

@@ -1,20 +1,13 @@
--- The next set of a list: after the last that is held, or nowhere where 65 are held; a count has its place or none.
-use mathlib.Core.Path.{◌≡◌, refl, ap}
-use mathlib.Core.List.{List, [], ◌∷◌}
-use Prim.Native.Nat.{ℕ, zero, suc, ◌+◌, ◌≤◌, ◌<◌}
+-- The next set of a list: after the last that is held, or nowhere where 65 are held.
+use mathlib.Core.Path.{◌≡◌}
+use mathlib.Core.List.{List}
+use Prim.Native.Nat.{ℕ, ◌+◌, ◌≤◌, ◌<◌}
 use native.Mathlib.Numerals.{add-one}
 use native.Mathlib.Omega.{arith}
-use native.Mathlib.Nat.{not-suc-le-zero}
 use lib.ListN.{length, take, set}
 use lib.Seq.{take_all, length-take-le, take-suc-set}
 use borrow.Author.Tests.{lt-ltb, le-ltb}
 use Rattle.page.specs.Sheet.{added}
-
--- a store past the end changes nothing
-pub set_past : (l : List ℕ) (k n : ℕ) → length l ≤ k → l ≡ set l k n
-set_past [] k n h = refl
-set_past (x ∷ l) zero n h = absurd (not-suc-le-zero h)
-set_past (x ∷ l) (suc k) n h = ap (λ (t : List ℕ). x ∷ t) (set_past l k n (omega arith))
 
 module _ (l : List ℕ) (count n : ℕ) (long : length l ≡ 65) where
   pub next-set : count < 65 → take (count + 1) (set l count n) ≡ added n (take count l)
