@@ -5,6 +5,7 @@ ghost use Rattle.rules.specs.Replies.{answer_of, Did};
 
 use rules::{House, Lent, Refusal, Reply};
 
+#[tactic(auto, using(judge::proofs::Call::past, judge::proofs::Call::accepted, judge::proofs::Call::acted), unfolding(rules::specs::Replies::tell))]
 pub fn send_2av(
     house: &mut House,
     board: &mut [u8],
@@ -24,6 +25,7 @@ pub fn send_2av(
     Ok(Reply::Done)
 }
 
+#[tactic(auto, using(judge::proofs::Call::past, judge::proofs::Call::accepted, judge::proofs::Call::acted), unfolding(rules::specs::Replies::tell))]
 pub fn send_2b(
     house: &mut House,
     board: &mut [u8],
