@@ -7,6 +7,7 @@ use rules::{House, Refusal, Reply};
 use step::Step;
 
 // A match on the step, one call an arm: a step is data, from a line or a frame, and each call writes areas of its own.
+#[tactic(auto, using(judge::proofs::Call::as_said))]
 pub fn take(
     house: &mut House,
     board: &mut [u8],
