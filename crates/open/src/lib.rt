@@ -41,6 +41,7 @@ pub fn open(
 }
 
 // What opening replies, whatever house record stood there.
+#[tactic(auto, using(crate::proofs::Housed::sizes_of))]
 fn judge_open(board: &[u8], cells: &[u8], heard: &[u8], plan: Plan) -> Result<(), Refusal>
     ensures { (h : house_record.House) → number_in result ≡ open_reply (planned plan.entry) (memory h board.now cells.now heard.now) }
 {
