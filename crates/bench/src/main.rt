@@ -68,8 +68,9 @@ fn call_once(
     let mut book = [0u8; 64];
     let mut waiting = [0u8; 64];
     renew(given, board, cells, heard);
-    let served = frame::serve(
-        request.house,
+    let mut house = request.house;
+    let answer = frame::serve(
+        &mut house,
         board,
         cells,
         heard,
@@ -80,7 +81,7 @@ fn call_once(
         call,
         request.pairs,
     );
-    u64::from(served.answer.number)
+    u64::from(answer.number)
 }
 
 // The call, over and over; the answers' numbers added up.

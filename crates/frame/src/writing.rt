@@ -9,13 +9,13 @@ use named::Answer;
 use rules::House;
 
 // The answer's number and values, and the house record behind them.
-pub fn reply(answer: Answer, house: &House, out: &mut [u8])
+pub fn reply(answer: Answer, house: House, out: &mut [u8])
     requires { 472 ≤ length out.old }
-    ensures { out.new ≡ patch out.old 0 (reply_of (told answer) house.now) }
+    ensures { out.new ≡ patch out.old 0 (reply_of (told answer) house) }
 {
     write_u8(out, 0, answer.number);
     write_u32(out, 1, u32::from(answer.value));
     write_u32(out, 5, u32::from(answer.waiting));
     write_u32(out, 9, u32::from(answer.stopped));
-    image::write_house(*house, &mut out[13..]);
+    image::write_house(house, &mut out[13..]);
 }

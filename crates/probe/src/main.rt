@@ -1,13 +1,16 @@
 // Reads frames from standard input until it ends, or until one that it cannot hold, and writes a reply for each.
 #![tactic(auto)]
 
-use frame::{Asked, Request, Served};
+use frame::{Asked, Request};
+use named::Answer;
+use rules::House;
 use std::io;
 use std::io::{Read, Write};
 
 fn write_reply<W: Write>(
     output: &mut W,
-    served: Served,
+    answer: Answer,
+    house: House,
     board: &[u8],
     cells: &[u8],
     heard: &[u8],
@@ -15,7 +18,7 @@ fn write_reply<W: Write>(
     waiting: &[u8],
 ) -> io::Result<()> {
     let mut front = [0u8; frame::REPLY];
-    frame::writing::reply(served.answer, served.house, &mut front);
+    frame::writing::reply(answer, house, &mut front);
     output.write_all(&front)?;
     output.write_all(board)?;
     output.write_all(cells)?;
@@ -57,8 +60,9 @@ fn reply<W: Write>(
     book: &mut [u8],
     waiting: &mut [u8],
 ) -> io::Result<()> {
-    let served = frame::serve(
-        request.house,
+    let mut house = request.house;
+    let answer = frame::serve(
+        &mut house,
         board,
         cells,
         heard,
@@ -69,7 +73,7 @@ fn reply<W: Write>(
         call,
         request.pairs,
     );
-    write_reply(output, served, board, cells, heard, book, waiting)
+    write_reply(output, answer, house, board, cells, heard, book, waiting)
 }
 
 // The rest of a frame, whose lists and areas are as long as the parts handed over; false where the input ends before.
