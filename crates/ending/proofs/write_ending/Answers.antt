@@ -1,11 +1,9 @@
 -- The gate's refusal is written as an answer, and past the gate the book's rows and the intake as the closing lines.
-use Rattle.std.proofs.Common.{◌≡◌, ap, sym, ◌∙◌, arith, zero-add, length}
+use Rattle.std.proofs.Common.{sym, ◌∙◌, arith, zero-add, length}
 use Rattle.rules.specs.Lent.{lent, room_of, read}
 use Rattle.rules.specs.Steps.{ask}
-use Rattle.rules.specs.Replies.{number_in}
 use Rattle.rules.proofs.Named.{positive}
 use Rattle.tell.proofs.Past.{past_countable}
-use Rattle.closing.specs.Given.{Given}
 use Rattle.closing.specs.Printed.{answer_text}
 use Rattle.ending.proofs.Ending.{closes_with, refused, let_through, given_rows}
 use Rattle.ending.proofs.write_ending.Goals as goal
@@ -27,7 +25,7 @@ write_closing-requires c =
     let m = lent c.args.m in
     let b = c.book_rows-b in
     let rows = given_rows m (sym c.in_default.ensures.number) b.result c.by_split.result (b.ensures m.cells m.heard) c.by_split.ensures in
-    record { known = (room_of m.house, (read m, rows)); in_bounds = c.requires }
+    record { known = (room_of m.house, read m, rows); in_bounds = c.requires }
 
 pub returns : goal.returns
 returns c =
