@@ -48,10 +48,10 @@ fn begin_steps(
 {
     let number = page::open_room(heads, house, board, cells, heard);
     let at = closing::answer_line(out, 0, number, 0);
-    if heads.due != Due::Step {
-        return at;
+    match heads.due {
+        Due::Step => turn::take_step(house, board, cells, heard, read.line, read.pairs, out, at),
+        _ => at,
     }
-    turn::take_step(house, board, cells, heard, read.line, read.pairs, out, at)
 }
 
 // A line while a heading is due.
@@ -96,7 +96,15 @@ fn take_line(
             let read = lines::read_line(text);
             turn::take_step(house, board, cells, heard, read.line, read.pairs, out, 0)
         }
-        _ => take_heading(heads, house, lines::read_line(text), board, cells, heard, out),
+        _ => take_heading(
+            heads,
+            house,
+            lines::read_line(text),
+            board,
+            cells,
+            heard,
+            out,
+        ),
     }
 }
 
@@ -184,16 +192,18 @@ fn open_and_end(
 {
     let number = page::open_room(heads, house, board, cells, heard);
     let at = closing::answer_line(out, 0, number, 0);
-    if heads.due != Due::Step {
-        return at;
+    match heads.due {
+        Due::Step => {
+            let m = Lent {
+                house,
+                board,
+                cells,
+                heard,
+            };
+            at + ending::write_ending(m, &mut out[at..])
+        }
+        _ => at,
     }
-    let m = Lent {
-        house,
-        board,
-        cells,
-        heard,
-    };
-    at + ending::write_ending(m, &mut out[at..])
 }
 
 // What the end of the input prints after the last line.
@@ -244,5 +254,12 @@ pub fn finish(
     }
     let text = &line[..usize::from(s.held)];
     let at = take_line(&mut s.heads, &mut s.house, text, board, cells, heard, out);
-    at + end_sheet(&mut s.heads, &mut s.house, board, cells, heard, &mut out[at..])
+    at + end_sheet(
+        &mut s.heads,
+        &mut s.house,
+        board,
+        cells,
+        heard,
+        &mut out[at..],
+    )
 }
