@@ -10,65 +10,60 @@ use std::io::{Read, Write};
 // One byte; a line's answer is printed when its newline comes.
 fn take_one<W: Write>(
     output: &mut W,
-    s: Session,
+    s: &mut Session,
     b: u8,
     line: &mut [u8],
     board: &mut [u8],
     cells: &mut [u8],
     heard: &mut [u8],
     out: &mut [u8],
-) -> io::Result<Session>
+) -> io::Result<()>
     requires in_bounds { 256 ≤ length line.old }
     requires in_bounds_2 { 68 ≤ length out.old }
 {
-    let fed = session::take_byte(s, b, line, board, cells, heard, out);
-    output.write_all(&out[..fed.wrote])?;
-    Ok(fed.session)
+    let wrote = session::take_byte(s, b, line, board, cells, heard, out);
+    output.write_all(&out[..wrote])
 }
 
 // The bytes of one part of the input.
 fn take_part<W: Write>(
     output: &mut W,
-    from: Session,
+    s: &mut Session,
     part: &[u8],
     line: &mut [u8],
     board: &mut [u8],
     cells: &mut [u8],
     heard: &mut [u8],
     out: &mut [u8],
-) -> io::Result<Session>
+) -> io::Result<()>
     requires part_len_bound { length part.now ≤ 4096 }
     requires in_bounds { 256 ≤ length line.old }
     requires in_bounds_2 { 68 ≤ length out.old }
 {
-    let mut s = from;
     for b in part {
-        s = take_one(output, s, *b, line, board, cells, heard, out)?;
+        take_one(output, s, *b, line, board, cells, heard, out)?;
     }
-    Ok(s)
+    Ok(())
 }
 
-// The sheet after one reading; none where the input has ended.
+// One reading, and whether the input had not ended.
 fn one_turn<R: Read, W: Write>(
     input: &mut R,
     output: &mut W,
-    s: Session,
+    s: &mut Session,
     line: &mut [u8],
     board: &mut [u8],
     cells: &mut [u8],
     heard: &mut [u8],
     out: &mut [u8],
-) -> io::Result<Option<Session>>
+) -> io::Result<bool>
     requires in_bounds { 256 ≤ length line.old }
     requires in_bounds_2 { 68 ≤ length out.old }
 {
     let mut part = [0u8; 4096];
     let n = input.read(&mut part)?;
-    if n == 0 {
-        return Ok(None);
-    }
-    let after = take_part(output, s, &part[..n], line, board, cells, heard, out)?;
-    Ok(Some(after))
+    take_part(output, s, &part[..n], line, board, cells, heard, out)?;
+    Ok(n != 0)
 }
 
 // The whole input, part by part.
@@ -87,10 +82,9 @@ fn read_all<R: Read, W: Write>(
     let mut s = session::begin();
     // a loop with no bound would need the handle Wait, which no crate here has
     for _ in 0..u64::MAX {
-        let Some(after) = one_turn(input, output, s, line, board, cells, heard, out)? else {
+        if !one_turn(input, output, &mut s, line, board, cells, heard, out)? {
             return Ok(s);
-        };
-        s = after;
+        }
     }
     Ok(s)
 }
