@@ -83,7 +83,8 @@ pub fn same_at(board: &[u8], k: usize, b: &[u8]) -> bool
     same_bytes(&board[a..a + 40], b)
 }
 
-// Whether these forty bytes are those of one of the first n messages.
+// Whether these forty bytes are those of one of the first n messages. The area and the count go side by side in this file: the definitions
+// (`Plain`, `board_of`, `standing`) take both, and the area is lent with its room past the count.
 #[tactic(auto, unfolding(crate::specs::Asked::standing))]
 pub fn stands(board: &[u8], n: usize, b: &[u8]) -> bool
     requires n_bound { n ≤ 1024 }
@@ -198,7 +199,8 @@ pub fn is_1b_at(board: &[u8], n: usize, k: usize) -> bool
     kind_of(msg_at(board, k)) == Kind::OneB
 }
 
-// Whether a message is a vote of this kind (4 a 2av, 5 a 2b) for this row, ballot and tube, by its own node.
+// Whether a message is a vote of this kind (4 a 2av, 5 a 2b) for this row, ballot and tube, by its own node. The kind stays a number here and in the
+// next two: docs/SLIPS.md names `is_vote`, which takes any from 4 on, and a `Kind` would ask more.
 #[tactic(auto, using(crate::proofs::Means::vote_own))]
 pub fn is_vote(
     m: Message,

@@ -26,6 +26,7 @@ pub fn settled()
     ensures book { BookSettled }
 {}
 
+#[tactic(auto, using(judge::proofs::Call::past, judge::proofs::Call::accepted, judge::proofs::Call::acted), unfolding(rules::specs::Replies::tell))]
 pub fn send_1a(
     house: &mut House,
     board: &mut [u8],
@@ -43,6 +44,7 @@ pub fn send_1a(
     Ok(Reply::Done)
 }
 
+#[tactic(auto, using(judge::proofs::Call::past, judge::proofs::Call::accepted, judge::proofs::Call::acted), unfolding(rules::specs::Replies::tell))]
 pub fn send_1c(
     house: &mut House,
     board: &mut [u8],
@@ -61,6 +63,7 @@ pub fn send_1c(
     Ok(Reply::Done)
 }
 
+#[tactic(auto, using(judge::proofs::Call::past, judge::proofs::Call::accepted, judge::proofs::Call::acted), unfolding(rules::specs::Replies::tell))]
 pub fn send_1b(
     house: &mut House,
     board: &mut [u8],
@@ -79,6 +82,7 @@ pub fn send_1b(
     Ok(Reply::Done)
 }
 
+#[tactic(auto, using(judge::proofs::Call::past, judge::proofs::Call::accepted, judge::proofs::Call::acted), unfolding(rules::specs::Replies::tell))]
 pub fn hear(
     house: &House,
     board: &[u8],
@@ -96,6 +100,7 @@ pub fn hear(
     Ok(Reply::Done)
 }
 
+#[tactic(auto, using(judge::proofs::Call::past, judge::proofs::Call::accepted, judge::proofs::Call::acted), unfolding(rules::specs::Replies::tell))]
 pub fn scan(
     house: &mut House,
     board: &[u8],

@@ -6,6 +6,7 @@ ghost use Rattle.step.specs.Given.{call_of};
 use rules::{House, Refusal, Reply};
 use step::Step;
 
+// A match on the step, one call an arm: a step is data, from a line or a frame, and each call writes areas of its own.
 pub fn take(
     house: &mut House,
     board: &mut [u8],

@@ -1,10 +1,12 @@
-// The calls 2av and 2b of a node.
+// The calls 2av and 2b of a node. These two, and those of lib.rt, differ in the judge and the act that they name: one function over both would take two
+// closures to save two lines, and lend every area for change. The numbers are parameters of their own, as a caller in C has them.
 ghost use Rattle.rules.specs.Lent.{memory};
 ghost use Rattle.rules.specs.Steps.{c2av, c2b};
 ghost use Rattle.rules.specs.Replies.{answer_of, Did};
 
 use rules::{House, Lent, Refusal, Reply};
 
+#[tactic(auto, using(judge::proofs::Call::past, judge::proofs::Call::accepted, judge::proofs::Call::acted), unfolding(rules::specs::Replies::tell))]
 pub fn send_2av(
     house: &mut House,
     board: &mut [u8],
@@ -24,6 +26,7 @@ pub fn send_2av(
     Ok(Reply::Done)
 }
 
+#[tactic(auto, using(judge::proofs::Call::past, judge::proofs::Call::accepted, judge::proofs::Call::acted), unfolding(rules::specs::Replies::tell))]
 pub fn send_2b(
     house: &mut House,
     board: &mut [u8],

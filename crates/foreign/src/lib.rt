@@ -41,7 +41,7 @@ pub fn message(h: &House, post: Post, pairs: [u32; 32]) -> Option<Message>
 
 // Test 7: each non-zero tube of a stored message is on intake; its kind has none where it is 0.
 #[tactic(auto, using(crate::proofs::Posts::own_tubes))]
-pub fn tubes_in(h: &House, m: Message) -> bool
+fn tubes_scanned(h: &House, m: Message) -> bool
     requires own { Own m }
     requires count { m.count ≤ 16 }
     ensures { result ≡ scanned h.now.tubes (meaning m) }
@@ -59,7 +59,7 @@ pub fn judge_foreign(m: Lent, post: Post, pairs: [u32; 32]) -> Result<Message, R
     let Some(x) = message(m.house, post, pairs) else {
         return Err(Refusal::OutsideLimits);
     };
-    if !tubes_in(m.house, x) {
+    if !tubes_scanned(m.house, x) {
         return Err(Refusal::NotOnIntake);
     }
     if !judge::forms::fits(m.house, m.board, x) {

@@ -18,7 +18,7 @@ pub fn all_bytes(pairs: [u32; 32]) -> bool
     pairs.iter().all(|x| *x <= 255)
 }
 
-// A 1b's mbal: none or a ballot.
+// A 1b's mbal: none or a ballot; crate form has the same of a stored byte.
 pub fn height_in(mbal: u32) -> bool
     ensures { result ≡ leb (height_of mbal) 16 }
 {

@@ -20,7 +20,7 @@ pub fn pairs_ok(pairs: [u8; 32], count: u8, tubes: u8) -> bool
     pairs::pairs_in(pairs, count) && pairs::each(pairs, count, pairs::Ask::Scanned(tubes))
 }
 
-// A stored ballot that may be none is in its limits.
+// A stored ballot that may be none is in its limits. Crate foreign has the same of a number of any size: one for both would convert at each use here.
 pub fn height_in(x: u8) -> bool
     ensures { result ≡ leb (height_of x) 16 }
 {
@@ -120,7 +120,7 @@ pub fn board_ok(h: &House, board: &[u8]) -> bool
 
 // ---- heard bits
 
-// The bit of a message in its byte if its first byte says 1b.
+// The bit of a message in its byte if its first byte says 1b. A number: any byte may stand there, and docs/SLIPS.md names this function.
 pub fn promise_bit(kind: u8, k: usize) -> u8
     ensures { result ≡ promise_bit kind k }
 {

@@ -1,9 +1,12 @@
 -- A call's three ways: refused at the gate, refused by its judge, done.
 use Rattle.std.proofs.Common.{◌≡◌, refl, ap, sym, ◌∙◌, Bool, true, false, List, [], ◌∷◌, ◌++◌, ℕ, T, Err, Ok, eq-eqb, ne_eqb}
+use Rattle.std.specs.Result.{IsErr, IsErrAnd}
+use Rattle.std.proofs.Common.{Result}
+use Rattle.std.proofs.lemmas.Result.{err_from_is_err_and}
 use Rattle.rules.specs.Tests.{pick, first}
 use Rattle.rules.specs.Lent.{Memory, room_of, read, Typed, long}
 use Rattle.rules.specs.Steps.{Call}
-use Rattle.rules.specs.Replies.{Answer, rules, areas, gate, reply, after, number_of, values_of, answer_of, bare, tell, answer, Did}
+use Rattle.rules.specs.Replies.{Answer, rules, areas, gate, reply, after, number_of, answer_of, bare, tell, answer, Did}
 use Rattle.rules.specs.declared.Refusal.{Refusal}
 use Rattle.rules.specs.declared.Reply.{Reply}
 use Rattle.rules.proofs.Sound.{and_l, Clear, clear}
@@ -56,10 +59,21 @@ module _ (m : Memory) (c : Call) where
   pub accepted : 0 ≡ first (gate m c) → 0 ≡ verdict m c → reply m c ≡ 0
   accepted e f = judged e f
 
-  pub done : (a : Reply) → reply m c ≡ 0 → values_of a ≡ tell (room_of m.house) (read m) c → {n : Memory} → n ≡ after m c → Did m c (answer_of (Ok a)) n
-  unfolding answer
-  done a e f g = record { answer = f ∙ rw (eq-eqb (reply m c) 0 e); memory = g }
-
 -- the same call by another name
 pub as_said : (m : Memory) {c d : Call} {a : Answer} {n : Memory} → c ≡ d → Did m d a n → Did m c a n
 as_said m e f = record { answer = f.answer ∙ ap (answer m) (sym e); memory = f.memory ∙ ap (after m) (sym e) }
+
+-- ---- the same by what the code's steps show: the exit of a `?`, and an act in the numbers that the judge narrowed
+
+pub gate_exit : (m : Memory) (c : Call) (x : Refusal) (r : Result Reply Refusal) → number_of x ≡ first (gate m c) → IsErr r × IsErrAnd r (λ y. y ≡ x)
+    → Did m c (answer_of r) m
+gate_exit m c x r e f = let p = err_from_is_err_and r f.1 in rw (p.1, p.2) (at_gate m c x e)
+
+pub judge_exit : (m : Memory) (c : Call) (x : Refusal) (r : Result Reply Refusal) → 0 ≡ first (gate m c) → number_of x ≡ verdict m c → IsErr r × IsErrAnd r (λ y. y ≡ x)
+    → Did m c (answer_of r) m
+judge_exit m c x r g e f = let p = err_from_is_err_and r f.1 in rw (p.1, p.2) (by_judge m c x g e)
+
+pub acted : (m : Memory) (c d : Call) {a : Answer} {n : Memory} → 0 ≡ first (gate m c) → 0 ≡ verdict m c → d ≡ c → a ≡ tell (room_of m.house) (read m) c
+    → n ≡ after m d → Did m c a n
+unfolding answer
+acted m c d g e s t f = record { answer = t ∙ rw (eq-eqb (reply m c) 0 (accepted m c g e)); memory = f ∙ ap (after m) s }

@@ -1,4 +1,5 @@
-// Numbers of any size against their limits: test 6, which gives them as the room's words, and test 7 for a single tube.
+// Numbers of any size against their limits: test 6, which gives them as the room's words, and test 7 for a single tube. The numbers are parameters of their own,
+// as the calls have them.
 ghost use Rattle.std.specs.Prelude.{◌≡◌, ◌&&◌, ◌<◌, leb, ltb, IsTrue};
 ghost use Rattle.rules.specs.Words.{bal_in, tube_in, scan_in, m1a, m1c, m2av};
 ghost use Rattle.rules.specs.Lent.{room_of, row_in, limits};

@@ -10,6 +10,7 @@ use rules::{House, Lent, Refusal, Reply};
 use step::Post;
 
 // The public call: the post is tested where all is lent, and an accepted one is put on the board and marks its node.
+#[tactic(auto, using(judge::proofs::Call::past, judge::proofs::Call::accepted, judge::proofs::Call::acted), unfolding(rules::specs::Replies::tell))]
 pub fn post_in_place(
     house: &mut House,
     board: &mut [u8],

@@ -7,7 +7,7 @@ ghost use Rattle.named.specs.Told.{told};
 
 use rules::{Refusal, Reply};
 
-// A reply's number and values.
+// A reply's number and values: the paper's own numbers, for what prints them or sends them on.
 #[derive(Clone, Copy, PartialEq, Eq)]
 pub struct Answer {
     pub number: u8,

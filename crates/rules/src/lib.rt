@@ -42,7 +42,7 @@ impl Tube {
     pub const MOST: u8 = 64;
 }
 
-// The forty bytes of a message, by name.
+// The forty bytes of a message, by name. The kind is the stored byte, since any byte may stand there; `kind_of` of crate board says what it means.
 #[derive(Clone, Copy)]
 pub struct Message {
     pub kind: u8,
@@ -82,7 +82,8 @@ impl Cell {
     }
 }
 
-// The house record: tables, counts, intake and foreign marks.
+// The house record: tables, counts, intake and foreign marks. Arrays beside their counts, and stations beside serials, as the definitions read them
+// (`room_of`, `intake_of`, `house_of`): fixed memory, no heap.
 #[derive(Clone, Copy)]
 pub struct House {
     pub nodes: u8,

@@ -38,7 +38,7 @@ pub struct Figures {
     pub stop: Stop,
 }
 
-// What an asked row is told as: its tube, 0 for none, or 18.
+// What an asked row is told as: its tube, 0 for none, or 18. No `From`: it would stand on the result type, and a call by name says more.
 fn told_as(o: RowTube) -> Result<Reply, Refusal>
     ensures { answer_of result ≡ told (outcome_of o) }
 {

@@ -76,7 +76,7 @@ pub fn judge_2av(m: Lent, row: u32, node: u32, ballot: u32, tube: u32) -> Result
     Ok((n, bid))
 }
 
-// max_bal and max_vbal become the ballot, max_vval the tube.
+// max_bal and max_vbal become the ballot, max_vval the tube. This and the next differ in what they do to the cell, and share the rest by `post` and `set_cell`.
 pub fn act_2b(house: &mut House, board: &mut [u8], cells: &mut [u8], heard: &[u8], node: Node, bid: Bid)
     requires whole { Whole (memory house.old board.old cells.old heard.now) }
     requires tube_value { reply (memory house.old board.old cells.old heard.now) (c2b bid.row.0 node.0 bid.ballot.0 bid.tube.0) ≡ 0 }

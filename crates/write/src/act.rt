@@ -1,4 +1,5 @@
-// What each accepted call does to lent memory.
+// What each accepted call does to lent memory. An area that a function does not touch is a parameter all the same: the contract is about the whole memory,
+// `Whole` and `after` of the definitions.
 ghost use Rattle.std.specs.Prelude.{◌≡◌};
 ghost use Rattle.rules.specs.Lent.{memory};
 ghost use Rattle.rules.specs.Steps.{c1a, c1b, c1c, hear, scan};

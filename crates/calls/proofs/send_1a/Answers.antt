@@ -1,53 +1,9 @@
--- A 1a, judged and done.
-use Rattle.std.proofs.Common.{◌≡◌, refl, ◌∙◌}
-use Rattle.std.proofs.lemmas.Result.{err_from_is_err_and}
-use Rattle.rules.specs.Lent.{memory}
-use Rattle.rules.specs.Steps.{c1a}
-use Rattle.rules.specs.Replies.{reply, after, tell}
-use Rattle.rules.specs.declared.Reply.TheVariants.{Done}
-use Rattle.judge.proofs.Call.{past, at_gate, by_judge, accepted, done}
+-- A 1a: the exits.
+use Rattle.judge.proofs.Call.{gate_exit, judge_exit}
 use Rattle.calls.proofs.send_1a.Goals as goal
 
 pub returns-in_err-gate : goal.returns-in_err-gate
-returns-in_err-gate c =
-    let a = c.args in
-    let m = memory a.house.now a.board.now a.cells.now a.heard.now in
-    let call = c1a a.row a.ballot in
-    let p = err_from_is_err_and c.from_residual.result c.from_residual.ensures.1 in
-    rw (p.1, p.2) (at_gate m call _ c.in_err-gate.ensures.number)
-
-pub judge_1a-requires : goal.judge_1a-requires
-judge_1a-requires c =
-    let a = c.args in
-    let m = memory a.house.now a.board.now a.cells.now a.heard.now in
-    let call = c1a a.row a.ballot in
-    past m call c.in_ok-gate.ensures.typed c.in_ok-gate.ensures.number
+returns-in_err-gate c = gate_exit _ _ _ _ c.in_err-gate.ensures.number c.from_residual.ensures
 
 pub returns-in_err-r : goal.returns-in_err-r
-returns-in_err-r c =
-    let a = c.args in
-    let m = memory a.house.now a.board.now a.cells.now a.heard.now in
-    let call = c1a a.row a.ballot in
-    let p = err_from_is_err_and c.from_residual-in_err-r.result c.from_residual-in_err-r.ensures.1 in
-    rw (p.1, p.2) (by_judge m call _ c.in_ok-gate.ensures.number c.in_err-r.ensures.number)
-
-pub act_1a-requires : goal.act_1a-requires
-act_1a-requires c =
-    let a = c.args in
-    let m = memory a.house.now a.board.now a.cells.now a.heard.now in
-    let call = c1a a.row a.ballot in
-    let s = c.in_ok-r in
-    let e = s.ensures.narrow in
-    let z = accepted m call c.in_ok-gate.ensures.number s.ensures.number in
-    record { whole = past m call c.in_ok-gate.ensures.typed c.in_ok-gate.ensures.number; ballot_value = (λ i. reply m (c1a (e.0 i) (e.1 i))) ∙ z }
-
-pub returns : goal.returns
-unfolding tell
-returns c =
-    let a = c.args in
-    let m = memory a.house.now a.board.now a.cells.now a.heard.now in
-    let call = c1a a.row a.ballot in
-    let s = c.in_ok-r in
-    let e = s.ensures.narrow in
-    let z = accepted m call c.in_ok-gate.ensures.number s.ensures.number in
-    done m call Done z refl (c.act_1a.ensures ∙ (λ i. after m (c1a (e.0 i) (e.1 i))))
+returns-in_err-r c = judge_exit _ _ _ _ c.in_ok-gate.ensures.number c.in_err-r.ensures.number c.from_residual-in_err-r.ensures

@@ -9,18 +9,18 @@ use Rattle.foreign.proofs.judge_foreign.Goals as goal
 pub returns-in_default-clause-number : goal.returns-in_default-clause-number
 returns-in_default-clause-number c = says_foreign (lent c.args.m) (post_of c.args.post c.args.pairs) false _ _ c.in_default.ensures refl refl
 
-pub tubes_in-requires-clause-own : goal.tubes_in-requires-clause-own
-tubes_in-requires-clause-own c = own (lent c.args.m) (post_of c.args.post c.args.pairs) c.in-Some.ensures
+pub tubes_scanned-requires-clause-own : goal.tubes_scanned-requires-clause-own
+tubes_scanned-requires-clause-own c = own (lent c.args.m) (post_of c.args.post c.args.pairs) c.in-Some.ensures
 
-pub tubes_in-requires-clause-count : goal.tubes_in-requires-clause-count
-tubes_in-requires-clause-count c = few (lent c.args.m) (post_of c.args.post c.args.pairs) c.in-Some.ensures
+pub tubes_scanned-requires-clause-count : goal.tubes_scanned-requires-clause-count
+tubes_scanned-requires-clause-count c = few (lent c.args.m) (post_of c.args.post c.args.pairs) c.in-Some.ensures
 
-pub returns-then-not-tubes_in-clause-number : goal.returns-then-not-tubes_in-clause-number
-returns-then-not-tubes_in-clause-number c =
+pub returns-then-not-tubes_scanned-clause-number : goal.returns-then-not-tubes_scanned-clause-number
+returns-then-not-tubes_scanned-clause-number c =
     let m = lent c.args.m in
     let p = post_of c.args.post c.args.pairs in
     let e = c.in-Some.ensures in
-    says_foreign m p true false _ e.0 (tubes_means m p e c.tubes_in.ensures ∙ c.if-not-tubes_in.true) refl
+    says_foreign m p true false _ e.0 (tubes_means m p e c.tubes_scanned.ensures ∙ c.if-not-tubes_scanned.true) refl
 
 pub fits-requires-clause-plain : goal.fits-requires-clause-plain
 fits-requires-clause-plain c = plain (lent c.args.m) c.requires
@@ -33,7 +33,7 @@ returns-then-not-fits-clause-number c =
     let m = lent c.args.m in
     let p = post_of c.args.post c.args.pairs in
     let e = c.in-Some.ensures in
-    says_foreign m p true true false e.0 (tubes_means m p e c.tubes_in.ensures ∙ c.if-not-tubes_in.false)
+    says_foreign m p true true false e.0 (tubes_means m p e c.tubes_scanned.ensures ∙ c.if-not-tubes_scanned.false)
     (sym (fits_means m _ _ (small m p e) e.1 c.fits.ensures) ∙ c.if-not-fits.true)
 
 pub returns-clause-number : goal.returns-clause-number
@@ -41,5 +41,5 @@ returns-clause-number c =
     let m = lent c.args.m in
     let p = post_of c.args.post c.args.pairs in
     let e = c.in-Some.ensures in
-    says_foreign m p true true true e.0 (tubes_means m p e c.tubes_in.ensures ∙ c.if-not-tubes_in.false)
+    says_foreign m p true true true e.0 (tubes_means m p e c.tubes_scanned.ensures ∙ c.if-not-tubes_scanned.false)
     (sym (fits_means m _ _ (small m p e) e.1 c.fits.ensures) ∙ c.if-not-fits.false)

@@ -1,53 +1,9 @@
--- A 2av, judged and done.
-use Rattle.std.proofs.Common.{◌≡◌, refl, ◌∙◌}
-use Rattle.std.proofs.lemmas.Result.{err_from_is_err_and}
-use Rattle.rules.specs.Lent.{memory}
-use Rattle.rules.specs.Steps.{c2av}
-use Rattle.rules.specs.Replies.{reply, after, tell}
-use Rattle.rules.specs.declared.Reply.TheVariants.{Done}
-use Rattle.judge.proofs.Call.{past, at_gate, by_judge, accepted, done}
+-- A 2av: the exits.
+use Rattle.judge.proofs.Call.{gate_exit, judge_exit}
 use Rattle.calls.proofs.votes.send_2av.Goals as goal
 
 pub returns-in_err-gate : goal.returns-in_err-gate
-returns-in_err-gate c =
-    let a = c.args in
-    let m = memory a.house.now a.board.now a.cells.now a.heard.now in
-    let call = c2av a.row a.node a.ballot a.tube in
-    let p = err_from_is_err_and c.from_residual.result c.from_residual.ensures.1 in
-    rw (p.1, p.2) (at_gate m call _ c.in_err-gate.ensures.number)
-
-pub judge_2av-requires : goal.judge_2av-requires
-judge_2av-requires c =
-    let a = c.args in
-    let m = memory a.house.now a.board.now a.cells.now a.heard.now in
-    let call = c2av a.row a.node a.ballot a.tube in
-    past m call c.in_ok-gate.ensures.typed c.in_ok-gate.ensures.number
+returns-in_err-gate c = gate_exit _ _ _ _ c.in_err-gate.ensures.number c.from_residual.ensures
 
 pub returns-in_err-n : goal.returns-in_err-n
-returns-in_err-n c =
-    let a = c.args in
-    let m = memory a.house.now a.board.now a.cells.now a.heard.now in
-    let call = c2av a.row a.node a.ballot a.tube in
-    let p = err_from_is_err_and c.from_residual-in_err-n.result c.from_residual-in_err-n.ensures.1 in
-    rw (p.1, p.2) (by_judge m call _ c.in_ok-gate.ensures.number c.in_err-n.ensures.number)
-
-pub act_2av-requires : goal.act_2av-requires
-act_2av-requires c =
-    let a = c.args in
-    let m = memory a.house.now a.board.now a.cells.now a.heard.now in
-    let call = c2av a.row a.node a.ballot a.tube in
-    let s = c.in_ok-n in
-    let e = s.ensures.narrow in
-    let z = accepted m call c.in_ok-gate.ensures.number s.ensures.number in
-    record { whole = past m call c.in_ok-gate.ensures.typed c.in_ok-gate.ensures.number; tube_value = (λ i. reply m (c2av (e.1.0 i) (e.0 i) (e.1.1 i) (e.1.2 i))) ∙ z }
-
-pub returns : goal.returns
-unfolding tell
-returns c =
-    let a = c.args in
-    let m = memory a.house.now a.board.now a.cells.now a.heard.now in
-    let call = c2av a.row a.node a.ballot a.tube in
-    let s = c.in_ok-n in
-    let e = s.ensures.narrow in
-    let z = accepted m call c.in_ok-gate.ensures.number s.ensures.number in
-    done m call Done z refl (c.act_2av.ensures ∙ (λ i. after m (c2av (e.1.0 i) (e.0 i) (e.1.1 i) (e.1.2 i))))
+returns-in_err-n c = judge_exit _ _ _ _ c.in_ok-gate.ensures.number c.in_err-n.ensures.number c.from_residual-in_err-n.ensures
