@@ -143,13 +143,12 @@ pub fn promises(board: &[u8], n: usize) -> [u8; 128]
     out
 }
 
-// The first n heard bytes have only bits of these, which are one node's.
-pub fn bytes_in(heard: &[u8], n: usize, these: &[u8]) -> bool
-    requires n_in_bounds { n ≤ length heard.now }
-    requires these_len { length these.now ≡ 128 }
-    ensures { result ≡ all_below (byte_in heard.now these.now) n }
+// Heard bytes have only bits of these, which are one node's.
+pub fn bytes_in(heard: &[u8], these: &[u8]) -> bool
+    requires { length these.now ≡ 128 }
+    ensures { result ≡ all_below (byte_in heard.now these.now) (length heard.now) }
 {
-    (0..n).all(|t| heard[t] & these[t % 128] == heard[t])
+    (0..heard.len()).all(|t| heard[t] & these[t % 128] == heard[t])
 }
 
 // Heard bits stand only at 1b messages.
@@ -161,7 +160,7 @@ pub fn heard_ok(h: &House, board: &[u8], heard: &[u8]) -> bool
     ensures { result ≡ heard_form (memory h.now board.now [] heard.now) }
 {
     let p = promises(board, h.count as usize);
-    bytes_in(heard, 128 * h.nodes as usize, &p)
+    bytes_in(&heard[..128 * h.nodes as usize], &p)
 }
 
 // ---- the gate
