@@ -1,10 +1,10 @@
 -- The cells of a part of the cells area, as its chunks of thirty-six bytes.
 use mathlib.Core.Path.{◌≡◌, refl, ap, sym, subst, ◌∙◌}
 use mathlib.Core.Bool.{Bool, true, false, ◌&&◌, and-false}
-use mathlib.Core.List.{List, [], ◌∷◌, ◌++◌}
+use mathlib.Core.List.{List, [], ◌∷◌}
 use Prim.Native.Nat.{ℕ, zero, suc, ◌+◌, ◌-◌, ◌*◌, ◌/◌, ◌≤◌, ◌<◌}
 use native.Mathlib.Omega.{arith}
-use lib.ListN.{length, take, drop, length-append, length-take, length-drop}
+use lib.ListN.{length, take, drop, length-append}
 use lib.Seq.{drop-drop, take-take, take_at, drop_at, length-take-le}
 use Rattle.std.specs.Iterator.{AlwaysYields}
 use Rattle.std.specs.Slice.Iter.{chunks_exact_steps, chunks_exact_rest, chunks_exact_size}
@@ -27,14 +27,14 @@ gives zero s e h l = λ x j p.
     let w = p.1.1 in
     omega (arith, k, w, e, l)
 gives (suc n) s e h l = (
-    (λ j p. let w = p.1.0 in omega (arith, w, e, h)),
-    λ x j p.
-        let c : length x.now ≡ 36 = p.1.1 ∙ e in
-        let t : take 36 (chunks_exact_rest s) ≡ x.now = ap (take 36) p.1.0 ∙ take_at x.now (chunks_exact_rest j) 36 c in
-        let d : drop 36 (chunks_exact_rest s) ≡ chunks_exact_rest j = ap (drop 36) p.1.0 ∙ drop_at x.now (chunks_exact_rest j) 36 c in
-        let k = ap length p.1.0 ∙ length-append x.now (chunks_exact_rest j) in
-        (sym t, rw d (gives n j (p.0 ∙ e) (omega (arith, k, c, h)) (omega (arith, k, c, l)))),
-  )
+  (λ j p. let w = p.1.0 in omega (arith, w, e, h)),
+  λ x j p.
+      let c : length x.now ≡ 36 = p.1.1 ∙ e in
+      let t : take 36 (chunks_exact_rest s) ≡ x.now = ap (take 36) p.1.0 ∙ take_at x.now (chunks_exact_rest j) 36 c in
+      let d : drop 36 (chunks_exact_rest s) ≡ chunks_exact_rest j = ap (drop 36) p.1.0 ∙ drop_at x.now (chunks_exact_rest j) 36 c in
+      let k = ap length p.1.0 ∙ length-append x.now (chunks_exact_rest j) in
+      (sym t, rw d (gives n j (p.0 ∙ e) (omega (arith, k, c, h)) (omega (arith, k, c, l)))),
+)
 
 pub cells_yield : (s : List ℕ) {i : _} → chunks_exact_size i ≡ 36 → chunks_exact_rest i ≡ s → YieldsList (chunks_exact_steps {A = ℕ}) (λ x. x.now) i (parts (length s / 36) s)
 cells_yield s {i} e r = record { runs = subst (λ (l : List ℕ). AlwaysYields (chunks_exact_steps {A = ℕ}) (λ x. x.now) i (parts (length s / 36) l)) r (gives (length s / 36) i e (rw r (omega arith)) (rw r (omega arith))) }

@@ -130,7 +130,7 @@ pub fn promise_bit(kind: u8, k: usize) -> u8
     0
 }
 
-// The bits of the 1b messages among the first n, laid out as one node's heard bytes.
+// The bits of the 1b messages among the first n, laid out as one node's heard bytes. A number: chunks of the first 40 * n bytes would be counted as well, for the bits stand by message number.
 pub fn promises(board: &[u8], n: usize) -> [u8; 128]
     requires n_bound { n ≤ 1024 }
     requires n_in_bounds { 40 * n ≤ length board.now }
@@ -166,7 +166,7 @@ pub fn heard_ok(h: &House, board: &[u8], heard: &[u8]) -> bool
 // ---- the gate
 
 // Memory is in form.
-#[tactic(auto, using(crate::proofs::Says::form_are, crate::proofs::Says::long_are, crate::proofs::Says::cells_few, crate::proofs::Parts::cells_front, tables::proofs::Counted::counted))]
+#[tactic(auto, using(crate::proofs::Says::form_are, crate::proofs::Says::long_are, crate::proofs::Parts::cells_front, tables::proofs::Counted::counted))]
 pub fn form_ok(m: Lent) -> bool
     requires m_value { counts m.house.now ≡ true }
     requires long_value { long (lent m) ≡ true }

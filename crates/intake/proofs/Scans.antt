@@ -1,14 +1,13 @@
 -- A scan's tube on an intake that is read from the front.
 use mathlib.Core.Path.{◌≡◌, refl, ap, sym, ◌∙◌}
 use mathlib.Core.Bool.{Bool, true, false, ◌&&◌, ◌||◌, true≢false}
-use mathlib.Core.List.{List, [], ◌∷◌, ◌++◌, append_assoc}
-use Prim.Native.Nat.{ℕ, zero, suc, ◌+◌, ◌-◌, ◌≤◌}
-use native.Mathlib.Nat.{add-zero, add-suc}
+use mathlib.Core.List.{List, [], ◌∷◌}
+use Prim.Native.Nat.{ℕ, zero, suc, ◌+◌, ◌≤◌}
 use native.Mathlib.Numerals.{add-one}
 use native.Mathlib.Omega.{arith}
 use borrow.Author.Tests.{le-leb, ltb-false}
 use lib.Dec.{eqb, leb, ltb, leb-suc-suc}
-use lib.ListN.{length, get_or}
+use lib.ListN.{length}
 use Rattle.std.specs.List.{zip, position_or_len}
 use Rattle.std.specs.Option.{unwrap_or}
 use Rattle.std.proofs.Common.{Option, Some, None, cond, not}
@@ -16,7 +15,7 @@ use Rattle.std.proofs.lemmas.List.Sums.{prefix_len-le-length}
 use Rattle.rules.specs.Tests.{pick}
 use Rattle.rules.specs.Lent.{intake_of}
 use Rattle.rules.specs.Steps.{scanned_in, tube_for}
-use Rattle.rules.proofs.Codec.{any_last, length-scans}
+use Rattle.rules.proofs.Codec.{length-scans}
 
 -- intake is the scans of two lists, each station with the serial beside it
 scan_first : (x y : ℕ) (a b : List ℕ) (n : ℕ) → intake_of (x ∷ a) (y ∷ b) (suc n) ≡ (x, y) ∷ intake_of a b n

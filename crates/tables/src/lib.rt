@@ -94,7 +94,8 @@ pub fn all_pass(nodes: u8, faulty: u8, asked: Asked, sets: &[u8]) -> bool
     requires { nodes ≤ 8 }
     ensures { result ≡ all (passes nodes faulty asked) sets.now }
 {
-    sets.iter().all(|set| set_passes(nodes, faulty, asked, *set))
+    sets.iter()
+        .all(|set| set_passes(nodes, faulty, asked, *set))
 }
 
 // Each two sets of a list, one with itself too, share more than f nodes.
@@ -102,7 +103,8 @@ pub fn all_share(nodes: u8, faulty: u8, sets: &[u8]) -> bool
     requires { nodes ≤ 8 }
     ensures { result ≡ all (λ p. all (share nodes faulty p) sets.now) sets.now }
 {
-    sets.iter().all(|p| all_pass(nodes, faulty, Asked::Shares(*p), sets))
+    sets.iter()
+        .all(|p| all_pass(nodes, faulty, Asked::Shares(*p), sets))
 }
 
 // What opening says of a house record's tables: 2, 3, 4, or nothing if they pass.
@@ -173,7 +175,7 @@ pub fn test_lists(nodes: u8, faulty: u8, quorums: &[u32], weaks: &[u32]) -> Resu
 
 // ---- intake
 
-// The scan numbered k is none of those before it.
+// The scan numbered k is none of those before it. The number is a place in the lists, not their length.
 pub fn scan_new(stations: &[u8], serials: &[u32], k: usize) -> bool
     requires k_in_bounds { k < length stations.now }
     requires k_in_bounds_2 { k < length serials.now }
