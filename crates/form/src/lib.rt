@@ -1,7 +1,7 @@
 // The gate of every call: counts, lengths and form of lent memory, each part decided by one small function.
 #![tactic(auto)]
 
-ghost use Rattle.std.specs.Prelude.{◌≡◌, true, ◌&&◌, [], ◌*◌, ◌≤◌, leb, length, IsTrue, OnOk};
+ghost use Rattle.std.specs.Prelude.{◌≡◌, true, ◌&&◌, [], ◌*◌, ◌/◌, ◌≤◌, leb, length, IsTrue, OnOk};
 ghost use Rattle.rules.specs.Tests.{all, all_below, first};
 ghost use Rattle.rules.specs.Words.{tube_in, height_of};
 ghost use Rattle.rules.specs.Lent.{memory, lent, board_of, counts, long, room_of, plain_msg, good_msg, cell_form, board_form, heard_form, in_form, Typed};
@@ -37,13 +37,13 @@ pub fn cell_ok(c: Cell, tubes: u8) -> bool
     (ballots & vote) && pairs_ok(c.pairs, c.count, tubes)
 }
 
-// The first n cells are in form.
-pub fn cells_ok(cells: &[u8], n: usize, tubes: u8) -> bool
-    requires n_bound { n ≤ 512 }
-    requires n_in_bounds { 36 * n ≤ length cells.now }
-    ensures { result ≡ all_below (cell_form tubes cells.now) n }
+// The cells of a part of the cells area are in form.
+pub fn cells_ok(cells: &[u8], tubes: u8) -> bool
+    ensures { result ≡ all_below (cell_form tubes cells.now) (length cells.now / 36) }
 {
-    (0..n).all(|i| cell_ok(cell::cell_at(cells, i), tubes))
+    cells
+        .chunks_exact(36)
+        .all(|c| cell_ok(cell::decode(c), tubes))
 }
 
 // ---- messages
@@ -130,7 +130,7 @@ pub fn promise_bit(kind: u8, k: usize) -> u8
     0
 }
 
-// The bits of the 1b messages among the first n, laid out as one node's heard bytes.
+// The bits of the 1b messages among the first n, laid out as one node's heard bytes. A number: chunks of the first 40 * n bytes would be counted as well, for the bits stand by message number.
 pub fn promises(board: &[u8], n: usize) -> [u8; 128]
     requires n_bound { n ≤ 1024 }
     requires n_in_bounds { 40 * n ≤ length board.now }
@@ -143,13 +143,12 @@ pub fn promises(board: &[u8], n: usize) -> [u8; 128]
     out
 }
 
-// The first n heard bytes have only bits of these, which are one node's.
-pub fn bytes_in(heard: &[u8], n: usize, these: &[u8]) -> bool
-    requires n_in_bounds { n ≤ length heard.now }
-    requires these_len { length these.now ≡ 128 }
-    ensures { result ≡ all_below (byte_in heard.now these.now) n }
+// Heard bytes have only bits of these, which are one node's.
+pub fn bytes_in(heard: &[u8], these: &[u8]) -> bool
+    requires { length these.now ≡ 128 }
+    ensures { result ≡ all_below (byte_in heard.now these.now) (length heard.now) }
 {
-    (0..n).all(|t| heard[t] & these[t % 128] == heard[t])
+    (0..heard.len()).all(|t| heard[t] & these[t % 128] == heard[t])
 }
 
 // Heard bits stand only at 1b messages.
@@ -161,13 +160,13 @@ pub fn heard_ok(h: &House, board: &[u8], heard: &[u8]) -> bool
     ensures { result ≡ heard_form (memory h.now board.now [] heard.now) }
 {
     let p = promises(board, h.count as usize);
-    bytes_in(heard, 128 * h.nodes as usize, &p)
+    bytes_in(&heard[..128 * h.nodes as usize], &p)
 }
 
 // ---- the gate
 
 // Memory is in form.
-#[tactic(auto, using(crate::proofs::Says::form_are, crate::proofs::Says::long_are, crate::proofs::Says::cells_few, tables::proofs::Counted::counted))]
+#[tactic(auto, using(crate::proofs::Says::form_are, crate::proofs::Says::long_are, crate::proofs::Parts::cells_front, tables::proofs::Counted::counted))]
 pub fn form_ok(m: Lent) -> bool
     requires m_value { counts m.house.now ≡ true }
     requires long_value { long (lent m) ≡ true }
@@ -175,9 +174,10 @@ pub fn form_ok(m: Lent) -> bool
     ensures typed { IsTrue result → Typed m.entry.house.now }
 {
     let h = m.house;
+    let cells = h.nodes as usize * h.rows as usize;
     tables::house_ok(h)
         && board_ok(h, m.board)
-        && cells_ok(m.cells, h.nodes as usize * h.rows as usize, h.tubes)
+        && cells_ok(&m.cells[..36 * cells], h.tubes)
         && heard_ok(h, m.board, m.heard)
 }
 
