@@ -261,5 +261,5 @@ pub fn covered(h: &House, board: &[u8], kind: Kind, bid: Bid) -> bool
     ensures { result ≡ covers (room_of h.now) (room_of h.now).quorums (is_vote (kind_byte kind) bid.row.0 bid.ballot.0 bid.tube.0) (board_of board.now h.now.count) }
 {
     let set = votes(board, usize::from(h.count), kind.into(), bid);
-    sets::some_full(h.quorums, h.listed, h.nodes, set)
+    sets::some_full(&h.quorums[..usize::from(h.listed)], h.nodes, set)
 }

@@ -94,11 +94,7 @@ pub fn is_promise(m: rules::Message, row: rules::Row, ballot: rules::Ballot) -> 
 }
 
 // One heard message more.
-pub fn told_more(
-    t: Told,
-    m: rules::Message,
-    bid: rules::Bid,
-) -> Told
+pub fn told_more(t: Told, m: rules::Message, bid: rules::Bid) -> Told
     ensures { (l : List Msg) → Tells t bid.row.0 bid.ballot.0 bid.tube.0 l → Tells result bid.row.0 bid.ballot.0 bid.tube.0 (l ++ (meaning m ∷ [])) }
 {
     if !is_promise(m, bid.row, bid.ballot) {
@@ -144,13 +140,7 @@ pub fn heard_more(
 }
 
 // All that a node has heard of the first n messages: one pass.
-pub fn gathered(
-    board: &[u8],
-    heard: &[u8],
-    n: usize,
-    node: rules::Node,
-    bid: rules::Bid,
-) -> Told
+pub fn gathered(board: &[u8], heard: &[u8], n: usize, node: rules::Node, bid: rules::Bid) -> Told
     requires node_bound { (node.0 < 8) × (n ≤ 1024) }
     requires n_in_bounds { 40 * n ≤ length board.now }
     requires node_in_bounds { 128 * node.0 + 128 ≤ length heard.now }
@@ -174,8 +164,8 @@ pub fn safe_at(h: &rules::House, t: Told, c: u8) -> bool
     ensures { result ≡ safe_at h.now t c }
 {
     let k = usize::from(c);
-    sets::some_full(h.quorums, h.listed, h.nodes, t.low[k])
-        && sets::some_full(h.weaks, h.backers, h.nodes, t.shown[k])
+    sets::some_full(&h.quorums[..usize::from(h.listed)], h.nodes, t.low[k])
+        && sets::some_full(&h.weaks[..usize::from(h.backers)], h.nodes, t.shown[k])
 }
 
 // (ii) for some c below the ballot.
@@ -204,5 +194,6 @@ pub fn known_safe(
     ensures { (cells : List ℕ) → result ≡ known (room_of h.now) (read (memory h.now board.now cells heard.now)) bid.row.0 node.0 bid.ballot.0 bid.tube.0 }
 {
     let t = gathered(board, heard, usize::from(h.count), node, bid);
-    sets::some_full(h.quorums, h.listed, h.nodes, t.none) || safe_below(h, t, bid.ballot)
+    sets::some_full(&h.quorums[..usize::from(h.listed)], h.nodes, t.none)
+        || safe_below(h, t, bid.ballot)
 }
