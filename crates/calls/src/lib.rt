@@ -37,7 +37,12 @@ pub fn send_1a(
 ) -> Result<Reply, Refusal>
     ensures { Did (memory house.old board.old cells.now heard.now) (c1a row ballot) (answer_of result) (memory house.new board.new cells.now heard.now) }
 {
-    let m = Lent { house, board, cells, heard };
+    let m = Lent {
+        house,
+        board,
+        cells,
+        heard,
+    };
     form::gate(m)?;
     let (r, b) = send::judge_1a(m, row, ballot)?;
     act::act_1a(house, board, cells, heard, r, b);
@@ -56,7 +61,12 @@ pub fn send_1c(
 ) -> Result<Reply, Refusal>
     ensures { Did (memory house.old board.old cells.now heard.now) (c1c row ballot tube) (answer_of result) (memory house.new board.new cells.now heard.now) }
 {
-    let m = Lent { house, board, cells, heard };
+    let m = Lent {
+        house,
+        board,
+        cells,
+        heard,
+    };
     form::gate(m)?;
     let bid = send::judge_1c(m, row, ballot, tube)?;
     act::act_1c(house, board, cells, heard, bid);
@@ -75,7 +85,12 @@ pub fn send_1b(
 ) -> Result<Reply, Refusal>
     ensures { Did (memory house.old board.old cells.old heard.now) (c1b row node ballot) (answer_of result) (memory house.new board.new cells.new heard.now) }
 {
-    let m = Lent { house, board, cells, heard };
+    let m = Lent {
+        house,
+        board,
+        cells,
+        heard,
+    };
     form::gate(m)?;
     let (r, b, n) = node::judge_1b(m, row, node, ballot)?;
     act::act_1b(house, board, cells, heard, r, n, b);
@@ -93,7 +108,12 @@ pub fn hear(
 ) -> Result<Reply, Refusal>
     ensures { Did (memory house.now board.now cells.now heard.old) (steps.hear node number) (answer_of result) (memory house.now board.now cells.now heard.new) }
 {
-    let m = Lent { house, board, cells, heard };
+    let m = Lent {
+        house,
+        board,
+        cells,
+        heard,
+    };
     form::gate(m)?;
     let (n, k) = other::judge_hear(m, node, number)?;
     act::act_hear(house, board, cells, heard, n, k);
@@ -111,7 +131,12 @@ pub fn scan(
 ) -> Result<Reply, Refusal>
     ensures { Did (memory house.old board.now cells.now heard.now) (steps.scan station serial) (answer_of result) (memory house.new board.now cells.now heard.now) }
 {
-    let m = Lent { house, board, cells, heard };
+    let m = Lent {
+        house,
+        board,
+        cells,
+        heard,
+    };
     form::gate(m)?;
     let (s, tube) = other::judge_scan(m, station, serial)?;
     act::act_scan(house, board, cells, heard, s, serial);

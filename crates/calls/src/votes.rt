@@ -19,7 +19,12 @@ pub fn send_2av(
 ) -> Result<Reply, Refusal>
     ensures { Did (memory house.old board.old cells.old heard.now) (c2av row node ballot tube) (answer_of result) (memory house.new board.new cells.new heard.now) }
 {
-    let m = Lent { house, board, cells, heard };
+    let m = Lent {
+        house,
+        board,
+        cells,
+        heard,
+    };
     form::gate(m)?;
     let (n, bid) = vote::judge_2av(m, row, node, ballot, tube)?;
     vote::act_2av(house, board, cells, heard, n, bid);
@@ -39,7 +44,12 @@ pub fn send_2b(
 ) -> Result<Reply, Refusal>
     ensures { Did (memory house.old board.old cells.old heard.now) (c2b row node ballot tube) (answer_of result) (memory house.new board.new cells.new heard.now) }
 {
-    let m = Lent { house, board, cells, heard };
+    let m = Lent {
+        house,
+        board,
+        cells,
+        heard,
+    };
     form::gate(m)?;
     let (n, bid) = vote::judge_2b(m, row, node, ballot, tube)?;
     vote::act_2b(house, board, cells, heard, n, bid);

@@ -83,11 +83,21 @@ pub fn serve(
         }
         Asked::Step(step) => calls::steps::take(house, board, cells, heard, step, pairs).into(),
         Asked::Row(row) => {
-            let m = Lent { house, board, cells, heard };
+            let m = Lent {
+                house,
+                board,
+                cells,
+                heard,
+            };
             calls::asks::ask(m, row).into()
         }
         Asked::Book => {
-            let m = Lent { house, board, cells, heard };
+            let m = Lent {
+                house,
+                board,
+                cells,
+                heard,
+            };
             calls::asks::book(m, book, waiting).into()
         }
     }

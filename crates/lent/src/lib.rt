@@ -21,7 +21,12 @@ pub fn post_in_place(
 ) -> Result<Reply, Refusal>
     ensures { Did (memory house.old board.old cells.now heard.now) (foreign (post_of post pairs)) (answer_of result) (memory house.new board.new cells.now heard.now) }
 {
-    let m = Lent { house, board, cells, heard };
+    let m = Lent {
+        house,
+        board,
+        cells,
+        heard,
+    };
     form::gate(m)?;
     let x = foreign::judge_foreign(m, post, pairs)?;
     foreign::act_foreign(house, board, cells, heard, x);

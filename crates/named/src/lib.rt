@@ -29,11 +29,13 @@ impl From<Result<Reply, Refusal>> for Answer {
         match reply {
             Ok(Reply::Done) => bare,
             Ok(Reply::Told(t)) => Answer { value: t.0, ..bare },
-            Ok(Reply::Booked {
-                rows,
-                waiting,
-                stop,
-            }) => Answer {
+            Ok(
+                Reply::Booked {
+                    rows,
+                    waiting,
+                    stop,
+                },
+            ) => Answer {
                 value: rows,
                 waiting,
                 stopped: stop.into(),

@@ -8,7 +8,14 @@ ghost use Rattle.kept.specs.Kept.{Whole};
 
 use rules::{Ballot, Bid, House, Node, Row};
 
-pub fn act_1a(house: &mut House, board: &mut [u8], cells: &[u8], heard: &[u8], row: Row, ballot: Ballot)
+pub fn act_1a(
+    house: &mut House,
+    board: &mut [u8],
+    cells: &[u8],
+    heard: &[u8],
+    row: Row,
+    ballot: Ballot,
+)
     requires whole { Whole (memory house.old board.old cells.now heard.now) }
     requires ballot_value { reply (memory house.old board.old cells.now heard.now) (c1a row.0 ballot.0) ≡ 0 }
     ensures { memory house.new board.new cells.now heard.now ≡ after (memory house.old board.old cells.now heard.now) (c1a row.0 ballot.0) }
@@ -25,7 +32,15 @@ pub fn act_1c(house: &mut House, board: &mut [u8], cells: &[u8], heard: &[u8], b
 }
 
 // The message carries the cell as it stood; then its max_bal becomes the ballot.
-pub fn act_1b(house: &mut House, board: &mut [u8], cells: &mut [u8], heard: &[u8], row: Row, node: Node, ballot: Ballot)
+pub fn act_1b(
+    house: &mut House,
+    board: &mut [u8],
+    cells: &mut [u8],
+    heard: &[u8],
+    row: Row,
+    node: Node,
+    ballot: Ballot,
+)
     requires whole { Whole (memory house.old board.old cells.old heard.now) }
     requires ballot_value { reply (memory house.old board.old cells.old heard.now) (c1b row.0 node.0 ballot.0) ≡ 0 }
     ensures { memory house.new board.new cells.new heard.now ≡ after (memory house.old board.old cells.old heard.now) (c1b row.0 node.0 ballot.0) }
@@ -39,7 +54,14 @@ pub fn act_1b(house: &mut House, board: &mut [u8], cells: &mut [u8], heard: &[u8
     cell::set_cell(cells, k, raised);
 }
 
-pub fn act_hear(house: &House, board: &[u8], cells: &[u8], heard: &mut [u8], node: Node, number: u16)
+pub fn act_hear(
+    house: &House,
+    board: &[u8],
+    cells: &[u8],
+    heard: &mut [u8],
+    node: Node,
+    number: u16,
+)
     requires whole { Whole (memory house.now board.now cells.now heard.old) }
     requires number_value { reply (memory house.now board.now cells.now heard.old) (hear node.0 number) ≡ 0 }
     ensures { memory house.now board.now cells.now heard.new ≡ after (memory house.now board.now cells.now heard.old) (hear node.0 number) }
@@ -48,7 +70,14 @@ pub fn act_hear(house: &House, board: &[u8], cells: &[u8], heard: &mut [u8], nod
 }
 
 // A known scan changes nothing, a new one is put on intake.
-pub fn act_scan(house: &mut House, board: &[u8], cells: &[u8], heard: &[u8], station: u8, serial: u32)
+pub fn act_scan(
+    house: &mut House,
+    board: &[u8],
+    cells: &[u8],
+    heard: &[u8],
+    station: u8,
+    serial: u32,
+)
     requires whole { Whole (memory house.old board.now cells.now heard.now) }
     requires serial_value { reply (memory house.old board.now cells.now heard.now) (scan station serial) ≡ 0 }
     ensures { memory house.new board.now cells.now heard.now ≡ after (memory house.old board.now cells.now heard.now) (scan station serial) }

@@ -14,7 +14,7 @@ returns-in-Err c =
     let line = c.answer_line in
     let e = c.into.ensures ∙ c.in-Err.ensures.number in
     let parts = closes_with m c.args.out.now (refused m c.into.result e (λ z. positive c.in-Err.refusal (sym c.into.ensures ∙ z)))
-      (line.ensures.wrote.ends ∙ zero-add (length (answer_text c.into.result 0))) line.ensures.wrote.area (omega (arith, line.ensures.upper_bound)) in
+    (line.ensures.wrote.ends ∙ zero-add (length (answer_text c.into.result 0))) line.ensures.wrote.area (omega (arith, line.ensures.upper_bound)) in
     record { value = parts.0; out_after = parts.1.0; upper_bound = parts.1.1 }
 
 pub book_rows-b-requires : goal.book_rows-b-requires

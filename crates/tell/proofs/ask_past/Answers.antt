@@ -24,7 +24,7 @@ returns c =
     let m = lent a.m in
     record {
       answer = c.told_as.ensures
-        ∙ told-inside (room_of m.house) _ a.row (sym c.has_row.ensures.value ∙ c.if-not-has_row.false) (outcome_of c.row_outcome.result) (c.row_outcome.ensures m.cells m.heard)
-        ∙ sym (past-answer m (ask a.row) c.requires);
+          ∙ told-inside (room_of m.house) _ a.row (sym c.has_row.ensures.value ∙ c.if-not-has_row.false) (outcome_of c.row_outcome.result) (c.row_outcome.ensures m.cells m.heard)
+          ∙ sym (past-answer m (ask a.row) c.requires);
       memory = sym (unmoved m (ask a.row) refl);
     }
