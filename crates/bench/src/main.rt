@@ -6,156 +6,128 @@ use frame::{Asked, Request};
 use std::io;
 use std::io::{Read, Write};
 
+// What is done over and over.
+#[derive(Clone, Copy)]
+enum Work {
+    Read,
+    Call,
+    Copy,
+}
+
+// The order's first byte; any but 0 and 1 asks for the copy.
+impl From<u8> for Work {
+    fn from(what: u8) -> Self {
+        match what {
+            0 => Work::Read,
+            1 => Work::Call,
+            _ => Work::Copy,
+        }
+    }
+}
+
 // A sum and every byte of an area.
 fn add(from: u64, area: &[u8]) -> u64 {
     area.iter()
         .fold(from, |sum, byte| sum.wrapping_add(u64::from(*byte)))
 }
 
-// A sum and every lent byte, each read once.
-fn read_once(from: u64, board: &[u8], cells: &[u8], heard: &[u8]) -> u64 {
-    let sum = add(from, board);
-    let more = add(sum, cells);
-    add(more, heard)
+// The memory that is lent to a call.
+#[derive(Clone, Copy)]
+struct Room {
+    board: [u8; 40960],
+    cells: [u8; 18432],
+    heard: [u8; 1024],
 }
 
-// Every lent byte read once, and again.
-fn read_often(times: u32, board: &[u8; 40960], cells: &[u8; 18432], heard: &[u8; 1024]) -> u64 {
-    let mut sum: u64 = 0;
-    for _ in 0..times {
-        sum = read_once(sum, board, cells, heard);
-    }
-    sum
-}
-
-// The areas as the frame gave them.
-fn renew(
-    given: &[u8; 60416],
-    board: &mut [u8; 40960],
-    cells: &mut [u8; 18432],
-    heard: &mut [u8; 1024],
-) {
-    board.copy_from_slice(&given[..40960]);
-    cells.copy_from_slice(&given[40960..59392]);
-    heard.copy_from_slice(&given[59392..]);
-}
-
-// The copy alone, as often as it is made for calls.
-fn copy_often(
-    times: u32,
-    given: &[u8; 60416],
-    board: &mut [u8; 40960],
-    cells: &mut [u8; 18432],
-    heard: &mut [u8; 1024],
-) -> u64 {
-    for _ in 0..times {
-        renew(given, board, cells, heard);
-    }
-    read_once(0, board, cells, heard)
-}
-
-// One call on renewed memory; its answer's number.
-fn call_once(
+// A frame: its call, its lists, and the areas as it gives them.
+#[derive(Drop)]
+struct Frame {
     request: Request,
     call: Asked,
-    quorums: &[u32; 56],
-    weaks: &[u32; 28],
-    given: &[u8; 60416],
-    board: &mut [u8; 40960],
-    cells: &mut [u8; 18432],
-    heard: &mut [u8; 1024],
-) -> u64 {
-    let mut book = [0u8; 64];
-    let mut waiting = [0u8; 64];
-    renew(given, board, cells, heard);
-    let served = frame::serve(
-        request.house,
-        board,
-        cells,
-        heard,
-        &mut book,
-        &mut waiting,
-        quorums,
-        weaks,
-        call,
-        request.pairs,
-    );
-    u64::from(served.answer.number)
+    quorums: [u32; 56],
+    weaks: [u32; 28],
+    given: Room,
 }
 
-// The call, over and over; the answers' numbers added up.
-fn call_often(
-    times: u32,
-    request: Request,
-    call: Asked,
-    quorums: &[u32; 56],
-    weaks: &[u32; 28],
-    given: &[u8; 60416],
-    board: &mut [u8; 40960],
-    cells: &mut [u8; 18432],
-    heard: &mut [u8; 1024],
-) -> u64 {
-    let mut sum: u64 = 0;
-    for _ in 0..times {
-        let number = call_once(request, call, quorums, weaks, given, board, cells, heard);
-        sum = sum.wrapping_add(number);
-    }
-    sum
-}
-
-// What the order's first byte asks for, as often as it says.
-fn work(
-    what: u8,
-    times: u32,
-    request: Request,
-    call: Asked,
-    quorums: &[u32; 56],
-    weaks: &[u32; 28],
-    given: &[u8; 60416],
-) -> u64 {
-    let mut board = [0u8; 40960];
-    let mut cells = [0u8; 18432];
-    let mut heard = [0u8; 1024];
-    renew(given, &mut board, &mut cells, &mut heard);
-    match what {
-        0 => read_often(times, &board, &cells, &heard),
-        1 => call_often(
-            times, request, call, quorums, weaks, given, &mut board, &mut cells, &mut heard,
-        ),
-        _ => copy_often(times, given, &mut board, &mut cells, &mut heard),
+impl Frame {
+    // Fills the lists and the areas from the input.
+    fn read<R: Read>(&mut self, input: &mut R) -> io::Result<()> {
+        input::read_list(input, &mut self.quorums)?;
+        input::read_list(input, &mut self.weaks)?;
+        input.read_exact(&mut self.given.board)?;
+        input.read_exact(&mut self.given.cells)?;
+        input.read_exact(&mut self.given.heard)
     }
 }
 
-// Fills the lists and the areas from the input.
-fn read_rest<R: Read>(
-    input: &mut R,
-    quorums: &mut [u32],
-    weaks: &mut [u32],
-    given: &mut [u8],
-) -> io::Result<()> {
-    input::read_list(input, quorums)?;
-    input::read_list(input, weaks)?;
-    input.read_exact(given)
-}
-
-// The lists and the areas of the frame whose front was read, and then the work.
-fn rest<R: Read, W: Write>(
-    input: &mut R,
-    output: &mut W,
-    what: u8,
-    times: u32,
-    request: Request,
-    call: Asked,
-) -> io::Result<()> {
-    let mut quorums = [0u32; 56];
-    let mut weaks = [0u32; 28];
-    let mut given = [0u8; 60416];
-    let read = read_rest(input, &mut quorums, &mut weaks, &mut given);
-    if !input::whole(read)? {
-        return Ok(());
+impl Room {
+    // The areas as the frame gave them.
+    fn renew(&mut self, frame: &Frame) {
+        *self = frame.given;
     }
-    let sum = work(what, times, request, call, &quorums, &weaks, &given);
-    write!(output, "{sum}")
+
+    // A sum and every lent byte, each read once.
+    fn read_once(&self, from: u64) -> u64 {
+        let sum = add(from, &self.board);
+        let more = add(sum, &self.cells);
+        add(more, &self.heard)
+    }
+
+    // Every lent byte read once, and again.
+    fn read_often(&self, times: u32) -> u64 {
+        let mut sum: u64 = 0;
+        for _ in 0..times {
+            sum = self.read_once(sum);
+        }
+        sum
+    }
+
+    // One call on renewed memory; its answer's number.
+    fn call_once(&mut self, frame: &Frame) -> u64 {
+        let mut book = [0u8; 64];
+        let mut waiting = [0u8; 64];
+        self.renew(frame);
+        let mut house = frame.request.house;
+        let answer = frame::serve(
+            &mut house,
+            &mut self.board,
+            &mut self.cells,
+            &mut self.heard,
+            &mut book,
+            &mut waiting,
+            &frame.quorums,
+            &frame.weaks,
+            frame.call,
+            frame.request.pairs,
+        );
+        u64::from(answer.number)
+    }
+
+    // The call, over and over; the answers' numbers added up.
+    fn call_often(&mut self, times: u32, frame: &Frame) -> u64 {
+        let mut sum: u64 = 0;
+        for _ in 0..times {
+            sum = sum.wrapping_add(self.call_once(frame));
+        }
+        sum
+    }
+
+    // The copy alone, as often as it is made for calls.
+    fn copy_often(&mut self, times: u32, frame: &Frame) -> u64 {
+        for _ in 0..times {
+            self.renew(frame);
+        }
+        self.read_once(0)
+    }
+
+    // What is asked for, as often as it says.
+    fn work(&mut self, what: Work, times: u32, frame: &Frame) -> u64 {
+        match what {
+            Work::Read => self.read_often(times),
+            Work::Call => self.call_often(times, frame),
+            Work::Copy => self.copy_often(times, frame),
+        }
+    }
 }
 
 fn main(rt: HostRuntime) -> io::Result<()> {
@@ -165,6 +137,7 @@ fn main(rt: HostRuntime) -> io::Result<()> {
     if !input::whole(input.read_exact(&mut order))? {
         return Ok(());
     }
+    let what = Work::from(order[0]);
     let times = image::numbers::read_u32(&order, 1);
     let mut front = [0u8; frame::REQUEST];
     if !input::whole(input.read_exact(&mut front))? {
@@ -174,5 +147,21 @@ fn main(rt: HostRuntime) -> io::Result<()> {
     let Some(call) = frame::which::found(request.call, request.arguments) else {
         return Ok(());
     };
-    rest(&mut input, &mut output, order[0], times, request, call)
+    let mut frame = Frame {
+        request,
+        call,
+        quorums: [0; 56],
+        weaks: [0; 28],
+        given: Room {
+            board: [0; 40960],
+            cells: [0; 18432],
+            heard: [0; 1024],
+        },
+    };
+    if !input::whole(frame.read(&mut input))? {
+        return Ok(());
+    }
+    let mut room = frame.given;
+    let sum = room.work(what, times, &frame);
+    write!(output, "{sum}")
 }

@@ -1,17 +1,19 @@
 -- A message stands on a plain board just where its bytes stand there.
 use mathlib.Core.Path.{◌≡◌, refl, ap, sym, ◌∙◌}
 use mathlib.Core.Bool.{true, false, ◌||◌}
-use mathlib.Core.List.{List, ◌++◌, append-nil}
-use Prim.Native.Nat.{ℕ, zero, suc, ◌*◌}
+use mathlib.Core.List.{List, [], ◌++◌, append-nil}
+use Prim.Native.Nat.{ℕ, zero, suc, ◌*◌, ◌≤◌}
 use native.Mathlib.Omega.{arith}
 use lib.Dec.{T}
 use lib.ListN.{length, drop_of_length-le}
 use lib.Seq.{take_all}
 use Rattle.rules.specs.Tests.{all_below, eqs}
-use Rattle.rules.specs.Words.{Msg, same_msg}
-use Rattle.rules.specs.Lent.{Memory, memory, patch, window, msg_of, bytes_of, msg_at, meaning, stored, board_of, raised, plain_msg}
+use Rattle.rules.specs.Words.{Msg, m2av, m2b, same_msg}
+use Rattle.rules.specs.Lent.{Memory, memory, patch, window, msg_of, bytes_of, msg_at, meaning, stored, board_of, raised, plain_msg, line, kind_byte}
 use Rattle.rules.specs.Steps.{has, post}
 use Rattle.rules.specs.declared.Message.{Message}
+use Rattle.rules.specs.declared.Kind.{Kind}
+use Rattle.rules.specs.declared.Kind.TheVariants.{OneA, OneB, OneC, TwoAv, TwoB}
 use Rattle.rules.proofs.Sound.{and_l, and_r, same_msg_equal, same_refl}
 use Rattle.rules.proofs.Codec.{Small, msg_back, msg_long, any_last}
 use Rattle.rules.proofs.Scan.{or_swap, holds, both_ways, eqs_means, eqs_same}
@@ -74,3 +76,12 @@ own-stored x m f e = ap (λ (t : Message). stored (meaning t)) e ∙ ap stored (
 
 pub means_stored : (x : Msg) (m : Message) → Small x → m ≡ stored x → meaning m ≡ x
 means_stored x m f e = ap meaning e ∙ msg_back x f
+
+-- a 2av or a 2b is its meaning's own
+pub own_vote : (k : Kind) (r b n v : ℕ) (m : Message) → 4 ≤ kind_byte k → m ≡ line (kind_byte k) r b n v 0 0 [] → Own m
+unfolding stored
+own_vote OneA r b n v m h e = absurd (omega (arith, h))
+own_vote OneB r b n v m h e = absurd (omega (arith, h))
+own_vote OneC r b n v m h e = absurd (omega (arith, h))
+own_vote TwoAv r b n v m h e = own-stored (m2av r b n v) m tt e
+own_vote TwoB r b n v m h e = own-stored (m2b r b n v) m tt e

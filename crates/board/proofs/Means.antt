@@ -1,7 +1,10 @@
 -- What a message's bytes mean: its kind, the message at a number, a vote, and one message more.
+use denote.Enum.Bare.{sameb}
+use Rattle.rules.specs.contracts.Kind.{the_type}
+use Rattle.rules.specs.declared.Kind.{Kind}
+use Rattle.rules.specs.declared.Kind.TheVariants.{OneA, OneB, OneC, TwoAv, TwoB}
 use mathlib.Core.Path.{◌≡◌, refl, ap, sym, ◌∙◌}
 use mathlib.Core.Bool.{Bool, true, false, ◌&&◌, ◌||◌, and-true}
-use mathlib.Core.Logic.{◌⊎◌, inl, inr}
 use mathlib.Core.List.{List, [], ◌∷◌, ◌++◌}
 use Prim.Native.Nat.{ℕ, zero, suc, ◌+◌, ◌≤◌, ◌<◌}
 use native.Mathlib.Numerals.{add-one}
@@ -12,7 +15,7 @@ use lib.Dec.{eqb}
 use lib.ListN.{length}
 use Rattle.rules.specs.Tests.{pick, any}
 use Rattle.rules.specs.Words.{height_of, Msg, m1a, m1b, m1c, m2av, m2b, kind_of}
-use Rattle.rules.specs.Lent.{pairs_of, meaning, msg_at, board_of, is1b, is_1b_at}
+use Rattle.rules.specs.Lent.{pairs_of, meaning, msg_at, board_of, is1b, is_1b_at, kind_byte}
 use Rattle.rules.specs.declared.Message.{Message}
 use Rattle.rules.proofs.Codec.{length_board, any_last}
 use Rattle.rules.proofs.Scan.{turn}
@@ -51,10 +54,8 @@ kind_in m h k = kind_as_tests m ∙ go m.kind h k
     go (suc (suc (suc (suc zero)))) h k = refl
     go (suc (suc (suc (suc (suc x))))) h k = absurd (omega arith)
 
-pub kind_out : (m : Message) → (m.kind ≡ 0) ⊎ (4 < m.kind) → kind_of (meaning m) ≡ 5
-kind_out m (inl e) = kind_as_tests m ∙ rw e
-kind_out m (inr h) = kind_as_tests m
-    ∙ rw (ne_eqb m.kind 1 (λ e. omega arith), ne_eqb m.kind 2 (λ e. omega arith), ne_eqb m.kind 3 (λ e. omega arith), ne_eqb m.kind 4 (λ e. omega arith))
+pub kind_out : (m : Message) → ¬ (m.kind ≡ 1) → ¬ (m.kind ≡ 2) → ¬ (m.kind ≡ 3) → ¬ (m.kind ≡ 4) → kind_of (meaning m) ≡ 5
+kind_out m a b c d = kind_as_tests m ∙ rw (ne_eqb m.kind 1 a, ne_eqb m.kind 2 b, ne_eqb m.kind 3 c, ne_eqb m.kind 4 d)
 
 -- a message of kind 2 is the 1b of its bytes
 pub means_1b : (m : Message) → kind_of (meaning m) ≡ 2 → meaning m ≡ m1b m.row m.bal m.node (height_of m.mbal) m.mval (pairs_of m.count m.pairs)
@@ -150,3 +151,18 @@ vote_own m k r b v h = vote_reads m k r b v m.node h ∙ rw (eq-eqb m.node m.nod
 -- one message more
 pub board_more : (p : Msg → Bool) (s : List ℕ) (i : ℕ) → any p (board_of s (i + 1)) ≡ any p (board_of s i) || p (meaning (msg_at s i))
 board_more p s i = ap (λ (n : ℕ). any p (board_of s n)) (add-one i) ∙ any_last p (board_of s i) (meaning (msg_at s i))
+
+-- a kind is the 1b's where its byte is 2
+pub is_one_b : (k : Kind) → sameb the_type k OneB ≡ eqb (kind_byte k) 2
+is_one_b OneA = refl
+is_one_b OneB = refl
+is_one_b OneC = refl
+is_one_b TwoAv = refl
+is_one_b TwoB = refl
+
+pub not_one_b : (k : Kind) → ¬ (k ≡ OneB) → ¬ (kind_byte k ≡ 2)
+not_one_b OneA n = λ e. omega (arith, e)
+not_one_b OneB n = λ e. n refl
+not_one_b OneC n = λ e. omega (arith, e)
+not_one_b TwoAv n = λ e. omega (arith, e)
+not_one_b TwoB n = λ e. omega (arith, e)

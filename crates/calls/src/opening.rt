@@ -1,31 +1,19 @@
 // Opening a room in lent memory, as the first of the calls.
 ghost use Rattle.rules.specs.Lent.{memory};
 ghost use Rattle.rules.specs.Replies.{answer_of, Opened};
-ghost use Rattle.open.specs.Room.{room};
+ghost use Rattle.open.specs.Room.{planned};
 
-use rules::House;
+use open::Plan;
+use rules::{House, Refusal, Reply};
 
 pub fn open(
-    house: House,
+    house: &mut House,
     board: &[u8],
     cells: &mut [u8],
     heard: &mut [u8],
-    nodes: u32,
-    faulty: u32,
-    rows: u32,
-    capacity: u32,
-    quorums: &[u32],
-    weaks: &[u32],
-) -> crate::Outcome
-    ensures { Opened (room nodes faulty rows capacity quorums.now weaks.now) (memory house board.now cells.old heard.old) (answer_of result.reply) (memory result.house board.now cells.new heard.new) }
+    plan: Plan,
+) -> Result<Reply, Refusal>
+    ensures { Opened (planned plan.entry) (memory house.old board.now cells.old heard.old) (answer_of result) (memory house.new board.now cells.new heard.new) }
 {
-    let o = open::open(
-        house, board, cells, heard, nodes, faulty, rows, capacity, quorums, weaks,
-    );
-    let reply = o.reply;
-    let after = o.house;
-    crate::Outcome {
-        reply: reply,
-        house: after,
-    }
+    open::open(house, board, cells, heard, plan)
 }

@@ -3,18 +3,20 @@ ghost use Rattle.rules.specs.Lent.{memory};
 ghost use Rattle.rules.specs.Replies.{answer_of, Did};
 ghost use Rattle.step.specs.Given.{call_of};
 
-use rules::House;
+use rules::{House, Refusal, Reply};
 use step::Step;
 
+// A match on the step, one call an arm: a step is data, from a line or a frame, and each call writes areas of its own.
+#[tactic(auto, using(judge::proofs::Call::as_said))]
 pub fn take(
-    house: House,
+    house: &mut House,
     board: &mut [u8],
     cells: &mut [u8],
     heard: &mut [u8],
     step: Step,
     pairs: [u32; 32],
-) -> crate::Outcome
-    ensures { Did (memory house board.old cells.old heard.old) (call_of step pairs) (answer_of result.reply) (memory result.house board.new cells.new heard.new) }
+) -> Result<Reply, Refusal>
+    ensures { Did (memory house.old board.old cells.old heard.old) (call_of step pairs) (answer_of result) (memory house.new board.new cells.new heard.new) }
 {
     match step {
         Step::Scan { station, serial } => crate::scan(house, board, cells, heard, station, serial),

@@ -1,12 +1,14 @@
-// The calls 2av and 2b of a node.
+// The calls 2av and 2b of a node. These two, and those of lib.rt, differ in the judge and the act that they name: one function over both would take two
+// closures to save two lines, and lend every area for change. The numbers are parameters of their own, as a caller in C has them.
 ghost use Rattle.rules.specs.Lent.{memory};
 ghost use Rattle.rules.specs.Steps.{c2av, c2b};
 ghost use Rattle.rules.specs.Replies.{answer_of, Did};
 
-use rules::{Ballot, House, Node, Reply, Row, Tube};
+use rules::{House, Lent, Refusal, Reply};
 
+#[tactic(auto, using(judge::proofs::Call::past, judge::proofs::Call::accepted, judge::proofs::Call::acted), unfolding(rules::specs::Replies::tell))]
 pub fn send_2av(
-    house: House,
+    house: &mut House,
     board: &mut [u8],
     cells: &mut [u8],
     heard: &[u8],
@@ -14,30 +16,24 @@ pub fn send_2av(
     node: u32,
     ballot: u32,
     tube: u32,
-) -> crate::Outcome
-    ensures { Did (memory house board.old cells.old heard.now) (c2av row node ballot tube) (answer_of result.reply) (memory result.house board.new cells.new heard.now) }
+) -> Result<Reply, Refusal>
+    ensures { Did (memory house.old board.old cells.old heard.now) (c2av row node ballot tube) (answer_of result) (memory house.new board.new cells.new heard.now) }
 {
-    let found = form::gate(house, board, cells, heard);
-    if found != 0 {
-        return crate::refused(house, found);
-    }
-    let k = vote::judge_2av(house, board, cells, heard, row, node, ballot, tube);
-    if k != 0 {
-        return crate::refused(house, k);
-    }
-    let r = Row(row as u8);
-    let n = Node(node as u8);
-    let b = Ballot(ballot as u8);
-    let v = Tube(tube as u8);
-    let h = vote::act_2av(house, board, cells, heard, r, n, b, v);
-    crate::Outcome {
-        reply: Reply::Done,
-        house: h,
-    }
+    let m = Lent {
+        house,
+        board,
+        cells,
+        heard,
+    };
+    form::gate(m)?;
+    let (n, bid) = vote::judge_2av(m, row, node, ballot, tube)?;
+    vote::act_2av(house, board, cells, heard, n, bid);
+    Ok(Reply::Done)
 }
 
+#[tactic(auto, using(judge::proofs::Call::past, judge::proofs::Call::accepted, judge::proofs::Call::acted), unfolding(rules::specs::Replies::tell))]
 pub fn send_2b(
-    house: House,
+    house: &mut House,
     board: &mut [u8],
     cells: &mut [u8],
     heard: &[u8],
@@ -45,24 +41,17 @@ pub fn send_2b(
     node: u32,
     ballot: u32,
     tube: u32,
-) -> crate::Outcome
-    ensures { Did (memory house board.old cells.old heard.now) (c2b row node ballot tube) (answer_of result.reply) (memory result.house board.new cells.new heard.now) }
+) -> Result<Reply, Refusal>
+    ensures { Did (memory house.old board.old cells.old heard.now) (c2b row node ballot tube) (answer_of result) (memory house.new board.new cells.new heard.now) }
 {
-    let found = form::gate(house, board, cells, heard);
-    if found != 0 {
-        return crate::refused(house, found);
-    }
-    let k = vote::judge_2b(house, board, cells, heard, row, node, ballot, tube);
-    if k != 0 {
-        return crate::refused(house, k);
-    }
-    let r = Row(row as u8);
-    let n = Node(node as u8);
-    let b = Ballot(ballot as u8);
-    let v = Tube(tube as u8);
-    let h = vote::act_2b(house, board, cells, heard, r, n, b, v);
-    crate::Outcome {
-        reply: Reply::Done,
-        house: h,
-    }
+    let m = Lent {
+        house,
+        board,
+        cells,
+        heard,
+    };
+    form::gate(m)?;
+    let (n, bid) = vote::judge_2b(m, row, node, ballot, tube)?;
+    vote::act_2b(house, board, cells, heard, n, bid);
+    Ok(Reply::Done)
 }

@@ -139,7 +139,7 @@ fn totals_line(out: &mut [u8], at: usize, scanned: u8, entered: u8, void: u8, wa
     )
 }
 
-// The line of an answer: its number, and a tube unless it is none.
+// The line of an answer: its number, and a tube unless it is none. Numbers, since `answer_text` of the definitions takes a reply's numbers.
 pub fn answer_line(out: &mut [u8], at: usize, number: u8, tube: u8) -> usize
     requires { at + 34 ≤ length out.old }
     ensures wrote { Wrote out.old at (answer_text number tube) result out.new }

@@ -2,12 +2,12 @@
 #![tactic(auto)]
 
 ghost use Rattle.std.specs.Prelude.{◌≡◌, ◌≤◌, eqb, length};
-ghost use Rattle.rules.specs.Lent.{memory, patch};
+ghost use Rattle.rules.specs.Lent.{lent, patch};
 ghost use Rattle.rules.specs.Replies.{stop_of};
 ghost use Rattle.page.specs.Sheet.{closes};
 ghost use Rattle.ending.specs.Laws.{Closed, OwnLine, AddsUp};
 
-use rules::{House, Stop};
+use rules::{Lent, Stop};
 
 // What the end of a sheet promises of memory that passes the gate, carried by a function that does nothing.
 pub fn ending_lines()
@@ -20,29 +20,28 @@ pub fn ending_lines()
 fn by_split(stop: Stop) -> bool
     ensures { result ≡ eqb (stop_of stop) 2 }
 {
-    match stop {
-        Stop::RowsEnded => false,
-        Stop::Unchosen => false,
-        Stop::Split => true,
-    }
+    matches!(stop, Stop::Split)
 }
 
 // All that the end of the input prints where a room was opened, at the front of a buffer; tells where it ends.
-pub fn write_ending(house: House, board: &[u8], cells: &[u8], heard: &[u8], out: &mut [u8]) -> usize
+pub fn write_ending(m: Lent, out: &mut [u8]) -> usize
     requires { 8192 ≤ length out.old }
-    ensures value { result ≡ length (closes (memory house board.now cells.now heard.now)) }
-    ensures out_after { out.new ≡ patch out.old 0 (closes (memory house board.now cells.now heard.now)) }
+    ensures value { result ≡ length (closes (lent m.entry)) }
+    ensures out_after { out.new ≡ patch out.old 0 (closes (lent m.entry)) }
     ensures upper_bound { result ≤ 8192 }
 {
-    let found = form::gate(house, board, cells, heard);
-    if found != 0 {
-        return closing::answer_line(out, 0, found, 0);
+    if let Err(refusal) = form::gate(m) {
+        return closing::answer_line(out, 0, refusal.into(), 0);
     }
-    let b = tell::booking::book_rows(house, board);
-    let tubes = b.tubes;
-    let stop = b.stop;
-    let split = by_split(stop);
-    let stations = house.stations;
-    let serials = house.serials;
-    closing::write_closing(tubes, b.reach, split, stations, serials, house.tubes, out)
+    let h = *m.house;
+    let b = tell::booking::book_rows(m.house, m.board);
+    closing::write_closing(
+        b.tubes,
+        b.reach,
+        by_split(b.stop),
+        h.stations,
+        h.serials,
+        h.tubes,
+        out,
+    )
 }

@@ -1,6 +1,6 @@
 -- Pair arrays of numbers of any size: one that passes test 6 holds bytes only.
 use mathlib.Core.Path.{◌≡◌, refl, ap}
-use mathlib.Core.Bool.{Bool, false, ◌&&◌}
+use mathlib.Core.Bool.{Bool, true, false, ◌&&◌}
 use mathlib.Core.List.{List, [], ◌∷◌}
 use Prim.Native.Nat.{ℕ, zero, suc, ◌*◌, ◌≤◌, ◌<◌}
 use native.Mathlib.Omega.{arith}
@@ -12,6 +12,7 @@ use Rattle.rules.specs.Lent.{pairs_of, ascend, pairs_in}
 use Rattle.rules.specs.Replies.{pairs_plain}
 use Rattle.rules.proofs.Sound.{and_l, and_r, and_two}
 use Rattle.rules.proofs.Lists.{failed}
+use Rattle.rules.proofs.Scan.{holds}
 use Rattle.rules.proofs.Forms.{length_pairs}
 use Rattle.kept.proofs.Lists.{all_more}
 use Rattle.pairs.specs.Pairs.{passes}
@@ -50,12 +51,14 @@ pairs_bytes (x ∷ y ∷ s) (suc k) h t u =
     let r = pairs_bytes s k (omega arith) (and_r (tube_in x && bal_in y) (all (passes Limits) (pairs_of k s)) t) (rw d at u) in
     and_two (byte x) (byte y && all byte s) (le→leb x 255 (omega arith)) (and_two (byte y) (all byte s) (le→leb y 255 (omega arith)) r)
 
-pub count_in : (s : List ℕ) (n : ℕ) → T (pairs_in (pairs_of n s)) → n ≤ 16
-count_in s n t = let l : length (pairs_of n s) ≤ 16 = search (leb→le, and_l, and_r) depth 9 in omega (arith, length_pairs n s)
+pub count_in : (s : List ℕ) (n : ℕ) → pairs_in (pairs_of n s) && pairs_plain n s ≡ true → n ≤ 16
+count_in s n e =
+    let t : T (pairs_in (pairs_of n s) && pairs_plain n s) = rw e tt in
+    let l : length (pairs_of n s) ≤ 16 = search (leb→le, and_l, and_r) depth 9 in omega (arith, length_pairs n s)
 
-pub in_bytes : (s : List ℕ) (n : ℕ) → length s ≡ 32 → T (pairs_in (pairs_of n s) && pairs_plain n s) → T (all byte s)
+in_bytes : (s : List ℕ) (n : ℕ) → length s ≡ 32 → T (pairs_in (pairs_of n s) && pairs_plain n s) → T (all byte s)
 in_bytes s n e t =
-    let h = count_in s n (and_l (pairs_in (pairs_of n s)) (pairs_plain n s) t) in
+    let h = count_in s n (holds (pairs_in (pairs_of n s) && pairs_plain n s) t) in
     let L = all (passes Limits) (pairs_of n s) in
     let A = ascend (pairs_of n s) in
     let Z = zeros (drop (2 * n) s) in

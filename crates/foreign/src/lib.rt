@@ -3,106 +3,77 @@
 
 pub mod promise; // promise.rt: a foreign 1b and its pairs
 
-ghost use Rattle.std.specs.Prelude.{◌≡◌, [], T};
+ghost use Rattle.std.specs.Prelude.{◌≡◌, [], ◌≤◌, IfOk};
 ghost use Rattle.rules.specs.Words.{m2av};
-ghost use Rattle.rules.specs.Lent.{memory, room_of, line, stored, limits, scanned};
+ghost use Rattle.rules.specs.Lent.{memory, lent, room_of, meaning, kind_byte, line, stored, limits, scanned};
+ghost use Rattle.rules.specs.Steps as steps;
 ghost use Rattle.rules.specs.Steps.{foreign, posted};
-ghost use Rattle.rules.specs.Replies.{post_in, reply, after};
+ghost use Rattle.rules.specs.Replies.{post_in, after, number_in};
 ghost use Rattle.kept.specs.Kept.{Whole};
+ghost use Rattle.board.specs.Asked.{Own};
 ghost use Rattle.judge.specs.Judged.{verdict};
+ghost use Rattle.judge.specs.Narrow.{Tested};
 ghost use Rattle.step.specs.Given.{post_of};
+ghost use Rattle.foreign.specs.Accepted.{Puts, Accepted};
 
-use rules::{Ballot, House, Message, Node, Row, Tube};
+use rules::{House, Kind, Lent, Message, Node, Refusal};
 use step::{Post, Vote};
 
-// Test 6: every field within its limits; another kind is not.
-pub fn fields_in(h: House, post: Post, pairs: [u32; 32]) -> bool
-    ensures { result ≡ post_in (room_of h) (post_of post pairs) }
+// A 2av or a 2b as it is stored, where every field is within its limits.
+pub fn message_vote(h: &House, kind: Kind, v: Vote) -> Option<Message>
+    ensures { Tested (limits (room_of h.now) (m2av v.row v.ballot v.node v.tube)) (λ x. x ≡ line (kind_byte kind) v.row v.ballot v.node v.tube 0 0 []) result }
 {
-    match post {
-        Post::OneB(p) => crate::promise::fields_1b(h, p, pairs),
-        Post::Relay(v) => judge::limits::vote_in(h, v.row, v.ballot, v.node, v.tube),
-        Post::Accept(v) => judge::limits::vote_in(h, v.row, v.ballot, v.node, v.tube),
-        Post::Other => false,
-    }
+    let (node, bid) = judge::limits::vote_in(h, v.row, v.ballot, v.node, v.tube)?;
+    Some(board::bare(kind, bid, node))
 }
 
-// Test 7: each non-zero tube is on intake.
-pub fn tubes_in(h: House, post: Post, pairs: [u32; 32]) -> bool
-    requires { T (post_in (room_of h) (post_of post pairs)) }
-    ensures { result ≡ scanned h.tubes (posted (post_of post pairs)) }
-{
-    match post {
-        Post::OneB(p) => crate::promise::tubes_1b(h, p, pairs),
-        Post::Relay(v) => judge::limits::on_intake(h, v.tube),
-        Post::Accept(v) => judge::limits::on_intake(h, v.tube),
-        Post::Other => true,
-    }
-}
-
-// A 2av or a 2b within limits, as it is stored.
-pub fn message_vote(h: House, kind: u8, v: Vote) -> Message
-    requires { T (limits (room_of h) (m2av v.row v.ballot v.node v.tube)) }
-    ensures { result ≡ line kind v.row v.ballot v.node v.tube 0 0 [] }
-{
-    let row = Row(v.row as u8);
-    let ballot = Ballot(v.ballot as u8);
-    let node = Node(v.node as u8);
-    let tube = Tube(v.tube as u8);
-    board::bare(kind, row, ballot, node, tube)
-}
-
-// The message that a post within limits puts, as it is stored.
-pub fn message(h: House, post: Post, pairs: [u32; 32]) -> Message
-    requires { T (post_in (room_of h) (post_of post pairs)) }
-    ensures { result ≡ stored (posted (post_of post pairs)) }
+// Test 6: the message that a post puts, as it is stored, where every field is within its limits; another kind is not.
+pub fn message(h: &House, post: Post, pairs: [u32; 32]) -> Option<Message>
+    ensures { Tested (post_in (room_of h.now) (post_of post pairs)) (λ x. x ≡ stored (posted (post_of post pairs))) result }
 {
     match post {
         Post::OneB(p) => crate::promise::message_1b(h, p, pairs),
-        Post::Relay(v) => message_vote(h, 4, v),
-        Post::Accept(v) => message_vote(h, 5, v),
-        Post::Other => board::bare(1, Row(0), Ballot(0), Node(0), Tube(0)),
+        Post::Relay(v) => message_vote(h, Kind::TwoAv, v),
+        Post::Accept(v) => message_vote(h, Kind::TwoB, v),
+        Post::Other => None,
     }
 }
 
-pub fn judge_foreign(
-    h: House,
-    board: &[u8],
-    cells: &[u8],
-    heard: &[u8],
-    post: Post,
-    pairs: [u32; 32],
-) -> u8
-    requires { Whole (memory h board.now cells.now heard.now) }
-    ensures { result ≡ verdict (memory h board.now cells.now heard.now) (foreign (post_of post pairs)) }
+// Test 7: each non-zero tube of a stored message is on intake; its kind has none where it is 0.
+#[tactic(auto, using(crate::proofs::Posts::own_tubes))]
+fn tubes_scanned(h: &House, m: Message) -> bool
+    requires own { Own m }
+    requires count { m.count ≤ 16 }
+    ensures { result ≡ scanned h.now.tubes (meaning m) }
 {
-    if !fields_in(h, post, pairs) {
-        return 6;
-    }
-    if !tubes_in(h, post, pairs) {
-        return 7;
-    }
-    let m = message(h, post, pairs);
-    if !judge::forms::fits(h, board, m) {
-        return 15;
-    }
-    0
+    m.tube <= h.tubes
+        && m.mval <= h.tubes
+        && pairs::each(m.pairs, m.count, pairs::Ask::Scanned(h.tubes))
 }
 
-// The message is posted, and its node has a mark from then on.
-pub fn act_foreign(
-    h: House,
-    board: &mut [u8],
-    cells: &[u8],
-    heard: &[u8],
-    post: Post,
-    pairs: [u32; 32],
-) -> House
-    requires whole { Whole (memory h board.old cells.now heard.now) }
-    requires pairs_value { reply (memory h board.old cells.now heard.now) (foreign (post_of post pairs)) ≡ 0 }
-    ensures { memory result board.new cells.now heard.now ≡ after (memory h board.old cells.now heard.now) (foreign (post_of post pairs)) }
+pub fn judge_foreign(m: Lent, post: Post, pairs: [u32; 32]) -> Result<Message, Refusal>
+    requires { Whole (lent m) }
+    ensures number { number_in result ≡ verdict (lent m.entry) (foreign (post_of post pairs)) }
+    ensures narrow { IfOk result (λ x. x ≡ stored (posted (post_of post pairs))) }
 {
-    let m = message(h, post, pairs);
-    let out = board::post(h, board, m);
-    write::with_mark(out, Node(m.node))
+    let Some(x) = message(m.house, post, pairs) else {
+        return Err(Refusal::OutsideLimits);
+    };
+    if !tubes_scanned(m.house, x) {
+        return Err(Refusal::NotOnIntake);
+    }
+    if !judge::forms::fits(m.house, m.board, x) {
+        return Err(Refusal::BoardFull);
+    }
+    Ok(x)
+}
+
+// The message of an accepted post is posted, and its node has a mark from then on.
+pub fn act_foreign(house: &mut House, board: &mut [u8], cells: &[u8], heard: &[u8], m: Message)
+    requires whole { Whole (memory house.old board.old cells.now heard.now) }
+    requires accepted { Accepted (memory house.old board.old cells.now heard.now) m }
+    ensures { (p : steps.Post) → Puts (memory house.old board.old cells.now heard.now) p m → memory house.new board.new cells.now heard.now ≡ after (memory house.old board.old cells.now heard.now) (foreign p) }
+{
+    board::post(house, board, m);
+    house::mark(house, Node(m.node));
 }

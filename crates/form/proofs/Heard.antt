@@ -1,7 +1,6 @@
 -- Heard bits stand only at 1b messages: a byte is looked at whole, beside a byte that has the bits of the 1b messages.
 use mathlib.Core.Path.{◌≡◌, refl, ap, sym, ◌∙◌}
 use mathlib.Core.Bool.{Bool, true, false, not, ◌&&◌, ◌||◌, and-false, and-true}
-use mathlib.Core.Logic.{inl, inr}
 use mathlib.Core.List.{List, [], ◌∷◌, ◌++◌}
 use Prim.Native.Nat.{ℕ, zero, suc, ◌+◌, ◌*◌, ◌/◌, ◌%◌, ◌^◌, ◌<◌}
 use native.Mathlib.Nat.{add-zero, div-one}
@@ -69,10 +68,10 @@ first_2 m = is1b_kind (meaning m) ∙ go (leb 1 m.kind) (leb m.kind 4) refl refl
     go true true p q = ap (λ (z : ℕ). eqb z 2) (kind_in m (leb-true 1 m.kind p) (leb-true m.kind 4 q))
     go true false p q =
         let h : 4 < m.kind = leb-false m.kind 4 q in
-        ap (λ (z : ℕ). eqb z 2) (kind_out m (inr h)) ∙ sym (ne_eqb m.kind 2 (λ z. omega arith))
+        ap (λ (z : ℕ). eqb z 2) (kind_out m (λ e. omega (arith, e)) (λ e. omega (arith, e)) (λ e. omega (arith, e)) (λ e. omega (arith, e))) ∙ sym (ne_eqb m.kind 2 (λ z. omega arith))
     go false b p q =
         let h : m.kind < 1 = leb-false 1 m.kind p in
-        ap (λ (z : ℕ). eqb z 2) (kind_out m (inl (omega arith))) ∙ sym (ne_eqb m.kind 2 (λ z. omega arith))
+        ap (λ (z : ℕ). eqb z 2) (kind_out m (λ e. omega (arith, e)) (λ e. omega (arith, e)) (λ e. omega (arith, e)) (λ e. omega (arith, e))) ∙ sym (ne_eqb m.kind 2 (λ z. omega arith))
 
 first_byte : (s : List ℕ) (k : ℕ) → (msg_at s k).kind ≡ get_or s (40 * k) 0
 unfolding msg_at

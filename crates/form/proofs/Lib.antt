@@ -1,3 +1,4 @@
 pub mod Plain
+pub mod Parts
 pub mod Heard
 pub mod Says

@@ -3,7 +3,6 @@ use mathlib.Core.Path.{◌≡◌, refl}
 use mathlib.Core.Bool.{true, ◌&&◌}
 use mathlib.Core.List.{List, []}
 use Prim.Native.Nat.{ℕ, ◌*◌, ◌≤◌}
-use native.Mathlib.Nat.{mul-le-mul}
 use native.Mathlib.Omega.{arith}
 use lib.ListN.{length}
 use Rattle.rules.specs.Tests.{all, all_below, distinct}
@@ -14,15 +13,11 @@ use Rattle.rules.proofs.Sound.{and_l}
 use Rattle.rules.proofs.Each.{and_assoc}
 use Rattle.board.specs.Asked.{Plain}
 use Rattle.tables.specs.Tables.{lengths}
-use Rattle.tables.proofs.Counted.{Counted, counted}
+use Rattle.tables.proofs.Counted.{counted}
 
 -- the messages stand in the board's area
 pub board_fits : (h : House) (s : List ℕ) → counts h ≡ true → 40 * h.capacity ≤ length s → (h.count ≤ 1024) × (40 * h.count ≤ length s)
 board_fits h s e l = let k = counted h e in (omega arith, omega arith)
-
--- a room has 512 cells at most
-pub cells_few : (h : House) → Counted h → h.nodes * h.rows ≤ 512
-cells_few h k = mul-le-mul {n₂ = 8} {m₂ = 64} k.nodes k.rows
 
 -- what the board's form says, by the tests of its parts
 pub board_are : (h : House) (s : List ℕ)

@@ -1,14 +1,13 @@
 // Frames: one call on one memory image, from the request's bytes to the reply's.
 #![tactic(auto)]
 
-ghost use Rattle.std.specs.Prelude.{◌≡◌};
 ghost use Rattle.rules.specs.Lent.{memory};
-ghost use Rattle.rules.specs.Replies.{answer_of};
 ghost use Rattle.named.specs.Told as numbers;
 ghost use Rattle.frame.specs.Frame.{loan, CallDid};
 
 use named::Answer;
-use rules::House;
+use open::Plan;
+use rules::{House, Lent};
 use step::Step;
 
 pub mod reading; // reading.rt: the request's bytes
@@ -50,16 +49,9 @@ pub enum Asked {
     Book,
 }
 
-// What a frame is answered, and the house record afterwards.
-#[derive(Clone, Copy)]
-pub struct Served {
-    pub answer: Answer,
-    pub house: House,
-}
-
-// One call on the memory that a frame lends.
+// One call on the memory that a frame lends; what it is answered, in numbers.
 pub fn serve(
-    house: House,
+    house: &mut House,
     board: &mut [u8],
     cells: &mut [u8],
     heard: &mut [u8],
@@ -69,8 +61,8 @@ pub fn serve(
     weaks: &[u32],
     call: Asked,
     pairs: [u32; 32],
-) -> Served
-    ensures { CallDid call pairs quorums.now weaks.now (loan (memory house board.old cells.old heard.old) book.old waiting.old) (numbers.told result.answer) (loan (memory result.house board.new cells.new heard.new) book.new waiting.new) }
+) -> Answer
+    ensures { CallDid call pairs quorums.now weaks.now (loan (memory house.old board.old cells.old heard.old) book.old waiting.old) (numbers.told result) (loan (memory house.new board.new cells.new heard.new) book.new waiting.new) }
 {
     match call {
         Asked::Opening {
@@ -79,32 +71,34 @@ pub fn serve(
             rows,
             capacity,
         } => {
-            let o = open::open(
-                house, board, cells, heard, nodes, faulty, rows, capacity, quorums, weaks,
-            );
-            told(o.reply, o.house)
+            let plan = Plan {
+                nodes,
+                faulty,
+                rows,
+                capacity,
+                quorums,
+                weaks,
+            };
+            open::open(house, board, cells, heard, plan).into()
         }
-        Asked::Step(step) => {
-            let o = calls::steps::take(house, board, cells, heard, step, pairs);
-            told(o.reply, o.house)
-        }
+        Asked::Step(step) => calls::steps::take(house, board, cells, heard, step, pairs).into(),
         Asked::Row(row) => {
-            let o = calls::asks::ask(house, board, cells, heard, row);
-            told(o.reply, o.house)
+            let m = Lent {
+                house,
+                board,
+                cells,
+                heard,
+            };
+            calls::asks::ask(m, row).into()
         }
         Asked::Book => {
-            let o = calls::asks::book(house, board, cells, heard, book, waiting);
-            told(o.reply, o.house)
+            let m = Lent {
+                house,
+                board,
+                cells,
+                heard,
+            };
+            calls::asks::book(m, book, waiting).into()
         }
-    }
-}
-
-// A call's reply in numbers.
-fn told(reply: rules::Reply, house: House) -> Served
-    ensures { (numbers.told result.answer ≡ answer_of reply) × (result.house ≡ house) }
-{
-    Served {
-        answer: named::in_numbers(reply),
-        house,
     }
 }

@@ -73,7 +73,7 @@ fn step(number: u8, a: [u32; 8]) -> Step
     }
 }
 
-// The call that a number asks for; there is none above 10.
+// The call that a number asks for; there is none above 10. The numbers are those of docs/FRAMES.md, and this function and `step` are what turns them into words.
 pub fn found(number: u8, a: [u32; 8]) -> Option<Asked>
     ensures { result ≡ found_of number a }
 {

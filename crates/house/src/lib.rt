@@ -1,9 +1,9 @@
 // The house record where it stands, lent by its owner: thin functions on one field each.
 #![tactic(auto)]
 
-ghost use Rattle.std.specs.Prelude.{◌≡◌, ◌+◌, ◌<◌, ◌^◌};
+ghost use Rattle.std.specs.Prelude.{◌≡◌, suc, ◌+◌, ◌<◌, ◌^◌, set};
 ghost use Rattle.std.specs.Int.Bits.{bit_or};
-ghost use Rattle.rules.specs.Lent.{raised, marked};
+ghost use Rattle.rules.specs.Lent.{raised, marked, house};
 
 use rules::{House, Node};
 
@@ -29,4 +29,15 @@ pub fn raise(h: &mut House)
     ensures { h.new ≡ raised h.old (h.old.count + 1) }
 {
     h.count += 1;
+}
+
+// One tube more on intake, where the record stands.
+pub fn enter(h: &mut House, station: u8, serial: u32)
+    requires { h.old.tubes < 64 }
+    ensures { h.new ≡ house h.old h.old.count h.old.marks (suc h.old.tubes) (set h.old.stations h.old.tubes station) (set h.old.serials h.old.tubes serial) }
+{
+    let at = h.tubes as usize;
+    h.stations[at] = station;
+    h.serials[at] = serial;
+    h.tubes += 1;
 }

@@ -1,4 +1,4 @@
-// Numbers of one, two and four bytes at a place of some bytes, little-endian.
+// Numbers of one, two and four bytes at a place of some bytes, little-endian. One function over the width would name the conversion by a trait of its own: these are one line each.
 ghost use Rattle.std.specs.Prelude.{◌≡◌, [], ◌∷◌, ◌+◌, ◌≤◌, ◌<◌, length, get_or};
 ghost use Rattle.rules.specs.Lent.{patch};
 ghost use Rattle.image.specs.Image.{two, four, two_at, four_at};

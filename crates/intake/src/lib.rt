@@ -12,31 +12,24 @@ pub fn is_scan(station: u8, serial: u32, a: u8, b: u32) -> bool
     station == a && serial == b
 }
 
-// The tube of a known scan, or the next one.
-pub fn tube_for(stations: &[u8], serials: &[u32], n: usize, station: u8, serial: u32) -> usize
-    requires n_bound { n ≤ 64 }
-    requires n_in_bounds { n ≤ length stations.now }
-    requires n_in_bounds_2 { n ≤ length serials.now }
-    ensures { result ≡ tube_for (intake_of stations.now serials.now n) station serial }
+// The tube of a known scan, or the next one: each station has a serial beside it.
+pub fn tube_for(stations: &[u8], serials: &[u32], station: u8, serial: u32) -> usize
+    requires { length stations.now ≤ length serials.now }
+    ensures { result ≡ tube_for (intake_of stations.now serials.now (length stations.now)) station serial }
 {
-    for i in 0..n {
-        if is_scan(station, serial, stations[i], serials[i]) {
-            return i + 1;
-        }
-    }
-    n + 1
+    let met = stations
+        .iter()
+        .zip(serials)
+        .position(|(a, b)| is_scan(station, serial, *a, *b));
+    met.unwrap_or(stations.len()) + 1
 }
 
 // The same of a house record's intake.
-pub fn tube_of(h: rules::House, station: u8, serial: u32) -> usize
-    requires { h.tubes ≤ 64 }
-    ensures { result ≡ tube_for (intake_of h.stations h.serials h.tubes) station serial }
+#[tactic(auto, using(rules::proofs::Each::intake_front))]
+pub fn tube_of(h: &rules::House, station: u8, serial: u32) -> usize
+    requires { h.now.tubes ≤ 64 }
+    ensures { result ≡ tube_for (intake_of h.now.stations h.now.serials h.now.tubes) station serial }
 {
-    tube_for(
-        &h.stations,
-        &h.serials,
-        usize::from(h.tubes),
-        station,
-        serial,
-    )
+    let n = usize::from(h.tubes);
+    tube_for(&h.stations[..n], &h.serials[..n], station, serial)
 }

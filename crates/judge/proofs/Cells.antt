@@ -4,10 +4,11 @@ use mathlib.Core.List.{List}
 use Prim.Native.Nat.{ℕ, ◌+◌, ◌*◌, ◌≤◌, ◌<◌}
 use native.Mathlib.Nat.{mul-le-mul}
 use native.Mathlib.Omega.{arith}
-use lib.Dec.{T}
+use mathlib.Core.Bool.{Bool}
+use lib.Dec.{T, leb}
 use lib.ListN.{length}
 use lib.Seq.{take_all}
-use Rattle.rules.specs.Words.{m1b, Cell}
+use Rattle.rules.specs.Words.{height_of, m1b, Cell}
 use Rattle.rules.specs.Lent.{Memory, window, stored, flatten, cell_of, cell_at, encode, meaning_cell, stored_cell, place, room_of, read, plain_cell, good_cell, cell_form, cells_form}
 use Rattle.rules.specs.Steps.{told}
 use Rattle.rules.specs.declared.Cell as cell_as_stored
@@ -69,3 +70,10 @@ module _ (m : Memory) (f : Form m) (r n : ℕ) (p : At (room_of m.house) r n) wh
 
   pub told_small : (b : ℕ) → Small (told (read m) r n b)
   told_small b = let g = fine m.house.tubes ((read m).cells r n) (cell_good m r n f p) in (omega (arith, g.vbal), g.pairs)
+
+  -- what a judge reads of the cell
+  pub height_reads : (b : ℕ) {z : Bool} {k : cell_as_stored.Cell} → k ≡ own → z ≡ leb (height_of k.maxbal) b → z ≡ leb ((read m).cells r n).max_bal b
+  height_reads b e f = f ∙ ap (λ (k : cell_as_stored.Cell). leb (height_of k.maxbal) b) e ∙ sym (ap (λ (k : Cell). leb k.max_bal b) cell-read)
+
+  pub told_reads : (b : ℕ) {k : cell_as_stored.Cell} {x : Message} → k ≡ own → x ≡ promised r b n k → x ≡ stored (told (read m) r n b)
+  told_reads b e f = f ∙ ap (promised r b n) e ∙ told_as b

@@ -1,3 +1,4 @@
 pub mod Past
 pub mod Cells
 pub mod Says
+pub mod Call

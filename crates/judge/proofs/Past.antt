@@ -1,12 +1,13 @@
 -- What memory past the gate lets a judge ask, and what numbers that passed test 6 are.
 use mathlib.Core.Path.{◌≡◌, sym, ◌∙◌}
 use mathlib.Core.Bool.{Bool, true, ◌&&◌, ◌||◌}
+use mathlib.Core.List.{[]}
 use Prim.Native.Nat.{ℕ, ◌≤◌, ◌<◌}
 use native.Mathlib.Omega.{arith}
 use lib.Dec.{T, leb, ltb, leb→le, ltb→lt}
 use Rattle.rules.specs.Tests.{all, all_below, distinct}
 use Rattle.rules.specs.Words.{Msg, Room, m1a, m1c, same_msg, bal_in, scan_in}
-use Rattle.rules.specs.Lent.{Memory, meaning, stored, board_of, room_of, row_in, read, counts, limits, plain_msg, good_msg, board_form}
+use Rattle.rules.specs.Lent.{Memory, meaning, stored, line, board_of, room_of, row_in, read, counts, limits, plain_msg, good_msg, board_form}
 use Rattle.rules.specs.Steps.{has, fits}
 use Rattle.rules.specs.declared.Message.{Message}
 use Rattle.rules.proofs.Sound.{and_l, and_r}
@@ -49,7 +50,25 @@ pub fits_means : (m : Memory) (x : Msg) (k : Message) {r : Bool} → Small x →
 fits_means m x k s e f =
     f ∙ (λ i. has (means_stored x k s e i) (board_of m.board m.house.count) || ltb (sym (length_board m.board m.house.count) i) m.house.capacity)
 
+-- a 1a and a 1c of narrowed numbers, by the numbers that were given
+pub lead_fits : (m : Memory) (r b : ℕ) (k : Message) {z : Bool} {x y : ℕ} → (x ≡ r) × (y ≡ b) → k ≡ line 1 x y 0 0 0 0 []
+    → z ≡ has (meaning k) (board_of m.board m.house.count) || ltb m.house.count m.house.capacity
+    → z ≡ fits (room_of m.house) (read m) (m1a r b)
+unfolding stored
+lead_fits m r b k e f = fits_means m (m1a r b) k tt (f ∙ (λ i. line 1 (e.0 i) (e.1 i) 0 0 0 0 []))
+
+pub offer_fits : (m : Memory) (r b v : ℕ) (k : Message) {z : Bool} {x y w : ℕ} → (x ≡ r) × (y ≡ b) × (w ≡ v) → k ≡ line 3 x y 0 w 0 0 []
+    → z ≡ has (meaning k) (board_of m.board m.house.count) || ltb m.house.count m.house.capacity
+    → z ≡ fits (room_of m.house) (read m) (m1c r b v)
+unfolding stored
+offer_fits m r b v k e f = fits_means m (m1c r b v) k tt (f ∙ (λ i. line 3 (e.0 i) (e.1 i) 0 (e.2 i) 0 0 []))
+
 -- ---- numbers within limits
+
+-- a seat's numbers, narrowed, are within limits as the given ones are
+pub seat_in : (ρ : Room) {r n b row node ballot : ℕ} → (r ≡ row) × (b ≡ ballot) × (n ≡ node)
+    → ((row_in ρ row && bal_in ballot) && ltb node ρ.nodes) ≡ true → ((row_in ρ r && bal_in b) && ltb n ρ.nodes) ≡ true
+seat_in ρ e f = (λ i. (row_in ρ (e.0 i) && bal_in (e.1 i)) && ltb (e.2 i) ρ.nodes) ∙ f
 
 pub lead_says : (ρ : Room) (r b : ℕ) → limits ρ (m1a r b) ≡ true → (r ≤ ρ.rows) × (b ≤ 15)
 unfolding limits

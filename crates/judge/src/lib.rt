@@ -1,4 +1,5 @@
-// What each call is answered once memory passed the gate: test 6, test 7 and the call's own, in the paper's order.
+// What each call is answered once memory passed the gate: test 6, test 7 and the call's own, in the paper's order. Each asks for `Whole`, said once in crate
+// kept; a type that knows it would ask more of the callers of `judge_hear` and the others that docs/SLIPS.md names.
 #![tactic(auto)]
 
 pub mod limits; // limits.rt: numbers of any size against their limits

@@ -1,20 +1,17 @@
-// Numbers of any size against their limits: test 6, and test 7 for a single tube.
-ghost use Rattle.std.specs.Prelude.{◌≡◌, ◌&&◌, leb, ltb};
+// Numbers of any size against their limits: test 6, which gives them as the room's words, and test 7 for a single tube. The numbers are parameters of their own,
+// as the calls have them.
+ghost use Rattle.std.specs.Prelude.{◌≡◌, ◌&&◌, ◌<◌, leb, ltb, IsTrue};
 ghost use Rattle.rules.specs.Words.{bal_in, tube_in, scan_in, m1a, m1c, m2av};
 ghost use Rattle.rules.specs.Lent.{room_of, row_in, limits};
+ghost use Rattle.judge.specs.Narrow.{Tested, Heard, Lead, Seat, Offer, Cast};
 
-use rules::House;
+use rules::{Ballot, Bid, House, Node, Row, Tube};
 
-pub fn row_in(h: House, row: u32) -> bool
-    ensures { result ≡ row_in (room_of h) row }
+pub fn node_in(h: &House, node: u32) -> bool
+    ensures value { result ≡ ltb node h.now.nodes }
+    ensures small { IsTrue result → node < 256 }
 {
-    (1 <= row) & (row <= h.rows as u32)
-}
-
-pub fn node_in(h: House, node: u32) -> bool
-    ensures { result ≡ ltb node h.nodes }
-{
-    node < h.nodes as u32
+    node < u32::from(h.nodes)
 }
 
 pub fn ballot_in(ballot: u32) -> bool
@@ -33,47 +30,71 @@ pub fn tube_in(tube: u32) -> bool
 pub fn scan_in(station: u32, serial: u32) -> bool
     ensures { result ≡ scan_in station serial }
 {
-    (station <= 255) & (serial <= 4294967295)
+    (station <= 255) & (serial <= u32::MAX)
 }
 
 // The tube was scanned.
-pub fn on_intake(h: House, tube: u32) -> bool
-    ensures { result ≡ leb tube h.tubes }
+pub fn on_intake(h: &House, tube: u32) -> bool
+    ensures { result ≡ leb tube h.now.tubes }
 {
-    tube <= h.tubes as u32
+    tube <= u32::from(h.tubes)
 }
 
 // A node, and the number of a message on the board.
-pub fn hear_in(h: House, node: u32, number: u32) -> bool
-    ensures { result ≡ ltb node h.nodes && ltb number h.count }
+pub fn hear_in(h: &House, node: u32, number: u32) -> Option<(Node, u16)>
+    ensures { Tested (ltb node h.now.nodes && ltb number h.now.count) (Heard node number) result }
 {
-    (node < h.nodes as u32) & (number < h.count as u32)
+    if !(node_in(h, node) & (number < u32::from(h.count))) {
+        return None;
+    }
+    Some((Node(node as u8), number as u16))
 }
 
 // Row and ballot: all that a 1a has.
-pub fn lead_in(h: House, row: u32, ballot: u32) -> bool
-    ensures { result ≡ limits (room_of h) (m1a row ballot) }
+pub fn lead_in(h: &House, row: u32, ballot: u32) -> Option<(Row, Ballot)>
+    ensures { Tested (limits (room_of h.now) (m1a row ballot)) (Lead row ballot) result }
 {
-    row_in(h, row) & ballot_in(ballot)
+    if !(h.has_row(row) & ballot_in(ballot)) {
+        return None;
+    }
+    Some((Row(row as u8), Ballot(ballot as u8)))
 }
 
 // Row, ballot and node: what a 1b is asked with.
-pub fn promise_in(h: House, row: u32, ballot: u32, node: u32) -> bool
-    ensures { result ≡ (row_in (room_of h) row && bal_in ballot) && ltb node h.nodes }
+pub fn promise_in(h: &House, row: u32, ballot: u32, node: u32) -> Option<(Row, Ballot, Node)>
+    ensures { Tested ((row_in (room_of h.now) row && bal_in ballot) && ltb node h.now.nodes) (Seat row ballot node) result }
 {
-    (row_in(h, row) & ballot_in(ballot)) & node_in(h, node)
+    if !((h.has_row(row) & ballot_in(ballot)) & node_in(h, node)) {
+        return None;
+    }
+    Some((Row(row as u8), Ballot(ballot as u8), Node(node as u8)))
 }
 
 // Row, ballot and tube: a 1c.
-pub fn offer_in(h: House, row: u32, ballot: u32, tube: u32) -> bool
-    ensures { result ≡ limits (room_of h) (m1c row ballot tube) }
+pub fn offer_in(h: &House, row: u32, ballot: u32, tube: u32) -> Option<Bid>
+    ensures { Tested (limits (room_of h.now) (m1c row ballot tube)) (Offer row ballot tube) result }
 {
-    (row_in(h, row) & ballot_in(ballot)) & tube_in(tube)
+    if !((h.has_row(row) & ballot_in(ballot)) & tube_in(tube)) {
+        return None;
+    }
+    Some(Bid {
+        row: Row(row as u8),
+        ballot: Ballot(ballot as u8),
+        tube: Tube(tube as u8),
+    })
 }
 
 // Row, ballot, node and tube: a 2av or a 2b.
-pub fn vote_in(h: House, row: u32, ballot: u32, node: u32, tube: u32) -> bool
-    ensures { result ≡ limits (room_of h) (m2av row ballot node tube) }
+pub fn vote_in(h: &House, row: u32, ballot: u32, node: u32, tube: u32) -> Option<(Node, Bid)>
+    ensures { Tested (limits (room_of h.now) (m2av row ballot node tube)) (Cast row node ballot tube) result }
 {
-    (row_in(h, row) & ballot_in(ballot)) & (node_in(h, node) & tube_in(tube))
+    if !((h.has_row(row) & ballot_in(ballot)) & (node_in(h, node) & tube_in(tube))) {
+        return None;
+    }
+    let bid = Bid {
+        row: Row(row as u8),
+        ballot: Ballot(ballot as u8),
+        tube: Tube(tube as u8),
+    };
+    Some((Node(node as u8), bid))
 }

@@ -1,12 +1,16 @@
 // What is answered to a node's steps, by its cell.
-ghost use Rattle.std.specs.Prelude.{◌≡◌, leb};
+ghost use Rattle.std.specs.Prelude.{◌≡◌, leb, IfOk};
 ghost use Rattle.rules.specs.Words.{height_of};
-ghost use Rattle.rules.specs.Lent.{memory};
+ghost use Rattle.rules.specs.Lent.{lent, place, cell_at, room_of};
 ghost use Rattle.rules.specs.Steps.{c1b};
+ghost use Rattle.rules.specs.Replies.{number_in};
+ghost use Rattle.rules.proofs.Codec.{At};
 ghost use Rattle.kept.specs.Kept.{Whole};
 ghost use Rattle.judge.specs.Judged.{verdict};
+ghost use Rattle.judge.specs.Narrow.{Seat};
 
-use rules::{Ballot, House, Node, Row};
+use crate::{forms, limits};
+use rules::{Ballot, Cell, Lent, Node, Refusal, Row};
 
 // Whether the height of a stored ballot, 0 for none, is at most a number.
 pub fn height_at_most(stored: u8, most: u8) -> bool
@@ -18,36 +22,32 @@ pub fn height_at_most(stored: u8, most: u8) -> bool
     stored < most
 }
 
-pub fn judge_1b(
-    h: House,
-    board: &[u8],
-    cells: &[u8],
-    heard: &[u8],
-    row: u32,
-    node: u32,
-    ballot: u32,
-) -> u8
-    requires { Whole (memory h board.now cells.now heard.now) }
-    ensures { result ≡ verdict (memory h board.now cells.now heard.now) (c1b row node ballot) }
+// A node's cell in a row.
+pub fn own_cell(m: Lent, row: Row, node: Node) -> Cell
+    requires whole { Whole (lent m) }
+    requires seat { At (room_of m.house.now) row.0 node.0 }
+    ensures { result ≡ cell_at m.entry.cells.now (place m.entry.house.now.rows row.0 node.0) }
 {
-    if !crate::limits::promise_in(h, row, ballot, node) {
-        return 6;
-    }
-    let r = Row(row as u8);
-    let n = Node(node as u8);
-    let b = Ballot(ballot as u8);
-    let k = cell::place(h.rows, r, n);
-    let c = cell::cell_at(cells, k);
+    cell::cell_at(m.cells, cell::place(m.house.rows, row, node))
+}
+
+pub fn judge_1b(m: Lent, row: u32, node: u32, ballot: u32) -> Result<(Row, Ballot, Node), Refusal>
+    requires { Whole (lent m) }
+    ensures number { number_in result ≡ verdict (lent m.entry) (c1b row node ballot) }
+    ensures narrow { IfOk result (Seat row ballot node) }
+{
+    let Some((r, b, n)) = limits::promise_in(m.house, row, ballot, node) else {
+        return Err(Refusal::OutsideLimits);
+    };
+    let c = own_cell(m, r, n);
     if !height_at_most(c.maxbal, b.0) {
-        return 8;
+        return Err(Refusal::LowBallot);
     }
-    let sent = h.count as usize;
-    if !board::has_1a(board, sent, r, b) {
-        return 9;
+    if !board::has_1a(m.board, m.house.count as usize, r, b) {
+        return Err(Refusal::NotAsked);
     }
-    let m = crate::forms::promise(r, b, n, c);
-    if !crate::forms::fits(h, board, m) {
-        return 15;
+    if !forms::fits(m.house, m.board, forms::promise(r, b, n, c)) {
+        return Err(Refusal::BoardFull);
     }
-    0
+    Ok((r, b, n))
 }

@@ -1,45 +1,42 @@
 // What is answered to a scan, and to a node that hears a message.
-ghost use Rattle.std.specs.Prelude.{◌≡◌};
-ghost use Rattle.rules.specs.Lent.{memory};
-ghost use Rattle.rules.specs.Steps.{hear, scan};
+ghost use Rattle.std.specs.Prelude.{◌≡◌, ◌≤◌, ◌<◌, IfOk};
+ghost use Rattle.rules.specs.Lent.{lent};
+ghost use Rattle.rules.specs.Steps.{hear, scan, tube_for};
+ghost use Rattle.rules.specs.Lent.{read};
+ghost use Rattle.rules.specs.Replies.{number_in};
 ghost use Rattle.kept.specs.Kept.{Whole};
 ghost use Rattle.judge.specs.Judged.{verdict};
+ghost use Rattle.judge.specs.Narrow.{Heard};
 
-use rules::{House, Tube};
+use crate::limits;
+use rules::{Lent, Node, Refusal, Tube};
 
-pub fn judge_hear(h: House, board: &[u8], cells: &[u8], heard: &[u8], node: u32, number: u32) -> u8
-    requires { Whole (memory h board.now cells.now heard.now) }
-    ensures { result ≡ verdict (memory h board.now cells.now heard.now) (hear node number) }
+pub fn judge_hear(m: Lent, node: u32, number: u32) -> Result<(Node, u16), Refusal>
+    requires { Whole (lent m) }
+    ensures number { number_in result ≡ verdict (lent m.entry) (hear node number) }
+    ensures narrow { IfOk result (Heard node number) }
 {
-    if !crate::limits::hear_in(h, node, number) {
-        return 6;
+    let Some((n, k)) = limits::hear_in(m.house, node, number) else {
+        return Err(Refusal::OutsideLimits);
+    };
+    if !board::is_1b_at(m.board, m.house.count as usize, k as usize) {
+        return Err(Refusal::NoPromise);
     }
-    let sent = h.count as usize;
-    let k = number as usize;
-    if !board::is_1b_at(board, sent, k) {
-        return 13;
-    }
-    0
+    Ok((n, k))
 }
 
 // A known scan has its old tube, a new one the next: either is a tube, unless intake is full.
-pub fn judge_scan(
-    h: House,
-    board: &[u8],
-    cells: &[u8],
-    heard: &[u8],
-    station: u32,
-    serial: u32,
-) -> u8
-    requires { Whole (memory h board.now cells.now heard.now) }
-    ensures { result ≡ verdict (memory h board.now cells.now heard.now) (scan station serial) }
+pub fn judge_scan(m: Lent, station: u32, serial: u32) -> Result<(u8, Tube), Refusal>
+    requires { Whole (lent m) }
+    ensures number { number_in result ≡ verdict (lent m.entry) (scan station serial) }
+    ensures narrow { IfOk result (λ x. (x.0 ≡ station) × (x.1.0 ≡ tube_for (read (lent m.entry)).intake station serial)) }
 {
-    if !crate::limits::scan_in(station, serial) {
-        return 6;
+    if !limits::scan_in(station, serial) {
+        return Err(Refusal::OutsideLimits);
     }
-    let t = intake::tube_of(h, station as u8, serial);
+    let t = intake::tube_of(m.house, station as u8, serial);
     if t > Tube::MOST as usize {
-        return 16;
+        return Err(Refusal::IntakeFull);
     }
-    0
+    Ok((station as u8, Tube(t as u8)))
 }

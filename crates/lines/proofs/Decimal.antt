@@ -1,55 +1,21 @@
 -- How a decimal is read, byte by byte; and what was written is read back.
-use mathlib.Core.Path.{◌≡◌, refl, sym, ap, ◌∙◌, subst⁻¹}
+use mathlib.Core.Path.{◌≡◌, refl, ap, ◌∙◌}
 use mathlib.Core.Bool.{Bool, true, false}
 use mathlib.Core.List.{List, [], ◌∷◌, ◌++◌, append_assoc}
-use Prim.Native.Nat.{ℕ, zero, suc, ◌+◌, ◌-◌, ◌*◌, ◌/◌, ◌%◌, ◌^◌, ◌≤◌, ◌<◌}
+use Prim.Native.Nat.{ℕ, zero, suc, ◌+◌, ◌*◌, ◌/◌, ◌%◌, ◌^◌, ◌≤◌, ◌<◌}
 use native.Mathlib.Nat.{pow-suc, add_assoc}
 use native.Mathlib.Numerals.{add-one}
 use native.Mathlib.Omega.{arith}
-use lib.Dec.{T, leb, ltb, leb→le}
-use lib.ListN.{length, get_or, take, drop, set, length-append, drop_of_length-le}
+use lib.Dec.{ltb}
+use lib.ListN.{length, get_or, take, drop, set, length-append}
 use lib.Seq.{drop-cons, drop-drop, set_at, length-take-le, drop-append_seam}
-use borrow.Author.Tests.{lt-ltb, le-ltb, le-leb, ltb-true, ltb-false}
+use borrow.Author.Tests.{lt-ltb, le-ltb, ltb-true, ltb-false}
+use Rattle.std.proofs.lemmas.Grind.{common_steps}
 use Rattle.rules.specs.Tests.{pick}
 use Rattle.rules.specs.Lent.{patch}
-use Rattle.rules.proofs.Sound.{and_l, and_r}
-use Rattle.lines.specs.declared.Number.TheVariants.{At, Bad}
-use Rattle.lines.specs.Decimal.{most, is_digit, follows, longer, onward, decimal_in, number_at, spelt, decimal}
-
-pub digit_low : (b : ℕ) → is_digit b ≡ true → 48 ≤ b
-digit_low b e = leb→le 48 b (and_l (leb 48 b) (leb b 57) (subst⁻¹ T e tt))
-
-pub digit_high : (b : ℕ) → is_digit b ≡ true → b ≤ 57
-digit_high b e = leb→le b 57 (and_r (leb 48 b) (leb b 57) (subst⁻¹ T e tt))
-
-pub follows-most : (v b : ℕ) → follows v b ≡ true → longer v b ≤ most
-follows-most v b e = leb→le (longer v b) most (and_r (leb 1 v) (leb (longer v b) most) (subst⁻¹ T e tt))
-
--- at a place of a text
-module _ (s : List ℕ) (at : ℕ) where
-  pub number_none : length s ≤ at → number_at s at ≡ Bad
-  number_none h = rw (drop_of_length-le s h)
-
-  pub number_stop : at < length s → is_digit (get_or s at 0) ≡ false → number_at s at ≡ Bad
-  number_stop h e = rw (drop-cons s at 0 h, e)
-
-  pub number_on : at < length s → is_digit (get_or s at 0) ≡ true → number_at s at ≡ onward (drop (at + 1) s) (get_or s at 0 - 48) (at + 1)
-  number_on h e = rw (drop-cons s at 0 h, e, add-one)
-
-  -- with the number v in hand
-  module _ (v : ℕ) where
-    pub onward_none : length s ≤ at → onward (drop at s) v at ≡ At v at
-    onward_none h = rw (drop_of_length-le s h)
-
-    pub onward_stop : at < length s → is_digit (get_or s at 0) ≡ false → onward (drop at s) v at ≡ At v at
-    onward_stop h e = rw (drop-cons s at 0 h, e)
-
-    pub onward_bad : at < length s → is_digit (get_or s at 0) ≡ true → follows v (get_or s at 0) ≡ false → onward (drop at s) v at ≡ Bad
-    onward_bad h e f = rw (drop-cons s at 0 h, e, f)
-
-    pub onward_on : at < length s → is_digit (get_or s at 0) ≡ true → follows v (get_or s at 0) ≡ true
-        → onward (drop at s) v at ≡ onward (drop (at + 1) s) (longer v (get_or s at 0)) (at + 1)
-    onward_on h e f = rw (drop-cons s at 0 h, e, f, add-one)
+use Rattle.rules.proofs.Area.{set-patch}
+use Rattle.std.specs.Prelude.{Some}
+use Rattle.lines.specs.Decimal.{most, is_digit, onward, decimal_in, number_at, spelt, decimal}
 
 -- ---- what is written
 
@@ -91,53 +57,41 @@ module _ (s : List ℕ) (at b : ℕ) where
   pub patch-more : (xs : List ℕ) → at + length xs < length s → set (patch s at xs) (at + length xs) b ≡ patch s at (xs ++ (b ∷ []))
   patch-more xs h =
       let next : at + (length xs + 1) ≡ suc (at + length xs) = omega arith in
-      let l : length (take at s ++ xs) ≡ at + length xs = length-append (take at s) xs ∙ ap (λ (k : ℕ). k + length xs) (length-take-le at s (omega arith)) in
-      ap (λ (t : List ℕ). set t (at + length xs) b)
-      (sym (append_assoc (take at s) xs (drop (length xs) (drop at s)))
-      ∙ ap (λ (t : List ℕ). (take at s ++ xs) ++ t) (drop-drop (length xs) at s ∙ drop-cons s (at + length xs) 0 h))
-      ∙ set_at (take at s ++ xs) (get_or s (at + length xs) 0) (drop (suc (at + length xs)) s) b (at + length xs) l
-      ∙ append_assoc (take at s) xs (b ∷ drop (suc (at + length xs)) s)
-      ∙ rw (length-append xs (b ∷ []), drop-drop (length xs + 1) at s, next, append_assoc xs (b ∷ []))
+      let l : length (take at s ++ xs) ≡ at + length xs = simp (length-append, length-take-le at s (omega arith)) in
+      rw (← append_assoc (take at s) xs, drop-drop (length xs) at s, drop-cons s (at + length xs) 0 h, set_at (take at s ++ xs) (get_or s (at + length xs) 0) (drop (suc (at + length xs)) s) b (at + length xs) l, append_assoc (take at s) xs, length-append xs (b ∷ []), drop-drop (length xs + 1) at s, next, append_assoc xs (b ∷ []))
+
+pub ruleset written = (decimal-few, decimal-more, length_more, patch-more, set-patch)
 
 -- ---- what was written is read back
 
 spelt-few : (n : ℕ) (rest : List ℕ) (at : ℕ) → n < 10 → decimal_in ((48 + n) ∷ rest) at ≡ onward rest n (at + 1)
-spelt-few n rest at h =
-    let back : 48 + n - 48 ≡ n = omega arith in
-    rw (le-leb 48 (48 + n) (omega arith), le-leb (48 + n) 57 (omega arith), back, add-one)
+spelt-few n rest at h = grind (arith, common_steps, add-one)
 
 one_more : (n : ℕ) (rest : List ℕ) (at : ℕ) → 10 ≤ n → n ≤ most → onward ((48 + n % 10) ∷ rest) (n / 10) at ≡ onward rest n (at + 1)
-one_more n rest at h m =
-    let back : longer (n / 10) (48 + n % 10) ≡ n = omega arith in
-    rw (le-leb 48 (48 + n % 10) (omega arith), le-leb (48 + n % 10) 57 (omega arith), le-leb 1 (n / 10) (omega arith), back, le-leb n most m, add-one)
-
-spelt_by : (k n : ℕ) (rest : List ℕ) (at : ℕ) → n ≤ most → (q : Bool) → ltb n 10 ≡ q
-    → ((more : List ℕ) → decimal_in (spelt k (n / 10) ++ more) at ≡ onward more (n / 10) (at + length (spelt k (n / 10))))
-    → decimal_in (spelt (suc k) n ++ rest) at ≡ onward rest n (at + length (spelt (suc k) n))
-spelt_by k n rest at m true e ih = rw e (spelt-few n rest at (ltb-true n 10 e))
-spelt_by k n rest at m false e ih =
-    let front = spelt k (n / 10) in
-    let last = (48 + n % 10) ∷ [] in
-    rw (e, append_assoc front last, ih ((48 + n % 10) ∷ rest), length-append front last, one_more n rest (at + length front) (ltb-false n 10 e) m, add_assoc)
+one_more n rest at h m = grind (arith, common_steps, add-one)
 
 spelt_back : (k n : ℕ) (rest : List ℕ) (at : ℕ) → n < 10 ^ suc k → n ≤ most
     → decimal_in (spelt k n ++ rest) at ≡ onward rest n (at + length (spelt k n))
 spelt_back zero n rest at h m = spelt-few n rest at h
-spelt_back (suc k) n rest at h m =
-    spelt_by k n rest at m (ltb n 10) refl (λ more. spelt_back k (n / 10) more at (tenth (suc k) n h) (omega arith))
+spelt_back (suc k) n rest at h m = by (ltb n 10) refl (spelt_back k (n / 10) ((48 + n % 10) ∷ rest) at (tenth (suc k) n h) (omega arith))
+  where
+    by : (q : Bool) → ltb n 10 ≡ q → decimal_in (spelt k (n / 10) ++ ((48 + n % 10) ∷ rest)) at ≡ onward ((48 + n % 10) ∷ rest) (n / 10) (at + length (spelt k (n / 10)))
+        → decimal_in (spelt (suc k) n ++ rest) at ≡ onward rest n (at + length (spelt (suc k) n))
+    by true e ih = rw e (spelt-few n rest at (ltb-true n 10 e))
+    by false e ih = let last = (48 + n % 10) ∷ [] in rw (e, append_assoc (spelt k (n / 10)) last, ih, length-append (spelt k (n / 10)) last, one_more n rest (at + length (spelt k (n / 10))) (ltb-false n 10 e) m, add_assoc)
 
 -- no digit stands at the front
 abbrev pub Stops : List ℕ → Type 0
 Stops [] = Unit
 Stops (b ∷ s) = is_digit b ≡ false
 
-stopped : (rest : List ℕ) (v at : ℕ) → Stops rest → onward rest v at ≡ At v at
+stopped : (rest : List ℕ) (v at : ℕ) → Stops rest → onward rest v at ≡ Some (v, at)
 stopped [] v at h = refl
 stopped (b ∷ s) v at h = rw h
 
 -- the decimal of n, wherever it stands and whatever follows that is no digit, is read as n
 pub read_back : (n : ℕ) (front rest : List ℕ) → n ≤ most → Stops rest
-    → number_at (front ++ (decimal n ++ rest)) (length front) ≡ At n (length front + length (decimal n))
+    → number_at (front ++ (decimal n ++ rest)) (length front) ≡ Some (n, length front + length (decimal n))
 unfolding decimal
 read_back n front rest m h =
     rw (drop-append_seam front) (spelt_back 9 n rest (length front) (omega arith) m) ∙ stopped rest n (length front + length (spelt 9 n)) h

@@ -1,4 +1,3 @@
-pub mod Splits
 pub mod Decimal
 pub mod Listing
 pub mod Forms

@@ -1,8 +1,6 @@
 -- Decimals as the sheet has them: without leading zeros, at most 4,294,967,295; how one is read and how one is written.
-use Rattle.std.specs.Prelude.{Bool, ◌&&◌, List, [], ◌∷◌, ◌++◌, ℕ, zero, suc, ◌+◌, ◌-◌, ◌*◌, ◌/◌, ◌%◌, leb, ltb, drop}
+use Rattle.std.specs.Prelude.{Bool, ◌&&◌, List, [], ◌∷◌, ◌++◌, ℕ, zero, suc, ◌+◌, ◌-◌, ◌*◌, ◌/◌, ◌%◌, leb, ltb, drop, Option, None, Some}
 use Rattle.rules.specs.Tests.{pick}
-use Rattle.lines.specs.declared.Number.{Number}
-use Rattle.lines.specs.declared.Number.TheVariants.{At, Bad}
 
 -- the largest number of a sheet
 abbrev pub most : ℕ
@@ -21,17 +19,17 @@ abbrev pub follows : ℕ → ℕ → Bool
 follows v b = leb 1 v && leb (longer v b) most
 
 -- the number that begins with v and goes on with the digits at the front of s, which has the place `at`; where it ends
-abbrev pub onward : List ℕ → ℕ → ℕ → Number
-onward [] v at = At v at
-onward (b ∷ s) v at = pick (is_digit b) (pick (follows v b) (onward s (longer v b) (suc at)) Bad) (At v at)
+abbrev pub onward : List ℕ → ℕ → ℕ → Option (ℕ × ℕ)
+onward [] v at = Some (v, at)
+onward (b ∷ s) v at = pick (is_digit b) (pick (follows v b) (onward s (longer v b) (suc at)) None) (Some (v, at))
 
 -- the decimal at the front of s, which has the place `at`
-abbrev pub decimal_in : List ℕ → ℕ → Number
-decimal_in [] at = Bad
-decimal_in (b ∷ s) at = pick (is_digit b) (onward s (b - 48) (suc at)) Bad
+abbrev pub decimal_in : List ℕ → ℕ → Option (ℕ × ℕ)
+decimal_in [] at = None
+decimal_in (b ∷ s) at = pick (is_digit b) (onward s (b - 48) (suc at)) None
 
 -- the decimal at a place of a text, and where it ends
-abbrev pub number_at : List ℕ → ℕ → Number
+abbrev pub number_at : List ℕ → ℕ → Option (ℕ × ℕ)
 number_at s at = decimal_in (drop at s) at
 
 -- the digits of n, which has at most k + 1

@@ -1,19 +1,17 @@
 -- "Chosen, book and sheet": which lines a sheet has, and what each of them says.
-use Rattle.std.specs.Prelude.{Bool, ◌&&◌, List, [], ◌∷◌, ◌++◌, ℕ, suc, eqb, leb, ltb, length, get_or, drop}
-use Rattle.std.proofs.Math.Option.{Option, none, some}
+use Rattle.std.specs.Prelude.{Bool, ◌&&◌, List, [], ◌∷◌, ◌++◌, ℕ, ◌+◌, eqb, leb, ltb, length, get_or, drop, Option, Some, None, option_and_then, option_map, unwrap_or}
 use Prim.Native.Char.{code}
 use Prim.Native.String.{String, [] as no_more, ◌∷◌ as ◌and◌}
+use Rattle.std.specs.Option.{option_or}
 use Rattle.rules.specs.Tests.{pick, fit}
 use Rattle.rules.specs.Words.{Pair}
 use Rattle.rules.specs.Lent.{pair_bytes}
-use Rattle.lines.specs.declared.Number.{Number}
-use Rattle.lines.specs.declared.Number.TheVariants as number
 use Rattle.lines.specs.declared.Heading.TheVariants.{Nodes, Faulty, Rows, Capacity, Quorum, Weak}
 use Rattle.step.specs.declared.Post.TheVariants.{OneB, Relay, Accept}
 use Rattle.step.specs.declared.Step.TheVariants.{Scan, Send1a, Send1b, Send1c, Send2av, Send2b, Hear, Foreign}
 use Rattle.lines.specs.declared.Line.{Line}
 use Rattle.lines.specs.declared.Line.TheVariants.{Heading, Step, Bad}
-use Rattle.lines.specs.declared.Fields.{Fields}
+use Rattle.lines.specs.declared.trying.Fields.{Fields}
 use Rattle.lines.specs.declared.Parsed.{Parsed}
 use Rattle.lines.specs.Splits.{parts}
 use Rattle.lines.specs.Decimal.{number_at}
@@ -29,49 +27,39 @@ stands x s at = ltb at (length s) && eqb (get_or s at 0) x
 
 -- the place is the end of s
 abbrev pub ends : {A : Type 0} → List ℕ → ℕ → A → Option A
-ends s at a = pick (eqb at (length s)) (some a) none
-
--- what comes of a number and the place where it ends
-abbrev pub after : {A : Type 0} → Number → (ℕ → ℕ → Option A) → Option A
-after (number.At v at) f = f v at
-after number.Bad f = none
+ends s at a = pick (eqb at (length s)) (Some a) None
 
 -- what comes of what was found
 abbrev pub given : {A B : Type 0} → Option A → (A → Option B) → Option B
-given (some a) f = f a
-given none f = none
+given o f = option_and_then f o
 
 -- ---- pairs, as 2:0,3:1 or nothing
 
 abbrev pub pair_in : List ℕ → Option Pair
-pair_in s = after (number_at s 0) (λ v at. pick (stands 58 s at) (after (number_at s (suc at)) (λ b at'. ends s at' (v, b))) none)
+pair_in s = given (number_at s 0) (λ (v, at). pick (stands 58 s at) (given (number_at s (at + 1)) (λ (b, at'). ends s at' (v, b))) None)
 
 -- the pairs that the parts are, after those in hand
 abbrev pub pairs_in : List (List ℕ) → List Pair → Option (List Pair)
-pairs_in [] ps = some ps
+pairs_in [] ps = Some ps
 pairs_in (s ∷ l) ps = given (pair_in s) (λ p. pairs_in l (ps ++ (p ∷ [])))
 
 abbrev pub pairs_of : List ℕ → Option (List Pair)
-pairs_of [] = some []
+pairs_of [] = Some []
 pairs_of (b ∷ s) = pairs_in (parts 44 (b ∷ s)) []
 
 -- ---- a form: # stands for a number, * for pairs up to the end, any other byte for itself
 
--- the numbers and the pairs that a text has for a form's marks
-abbrev pub Said : Type 0
-Said = List ℕ × List Pair
-
-abbrev pub paired : List ℕ → Option (List Pair) → Option Said
-paired ns (some ps) = some (ns, ps)
-paired ns none = none
+-- what a text has for a form's marks: its numbers, of the five that a form may have, how many pairs, and the first sixteen
+abbrev pub held : List ℕ → List Pair → Fields
+held ns ps = record { numbers = fit 5 ns; count = length ps; pairs = pair_bytes ps }
 
 -- what the text s says by a form from a place on, after the numbers in hand
-unfoldable pub by_form : List ℕ → List ℕ → ℕ → List ℕ → Option Said
-by_form [] s at ns = ends s at (ns, [])
+unfoldable pub by_form : List ℕ → List ℕ → ℕ → List ℕ → Option Fields
+by_form [] s at ns = ends s at (held ns [])
 by_form (x ∷ f) s at ns =
-    let counted = after (number_at s at) (λ n at'. by_form f s at' (ns ++ (n ∷ []))) in
-    let listed = paired ns (pairs_of (drop at s)) in
-    let same = pick (stands x s at) (by_form f s (suc at) ns) none in
+    let counted = given (number_at s at) (λ (n, at'). by_form f s at' (ns ++ (n ∷ []))) in
+    let listed = option_map (held ns) (pairs_of (drop at s)) in
+    let same = pick (stands x s at) (by_form f s (at + 1) ns) None in
     pick (eqb x 35) counted (pick (eqb x 42) listed same)
 
 -- a form, and the line that its numbers and its count of pairs make
@@ -98,36 +86,25 @@ forms =
     ∷ (text "do=foreign2b row=# ballot=# node=# tube=#", λ n c. Step (Foreign (Accept (record { row = get_or n 0 0; ballot = get_or n 1 0; node = get_or n 2 0; tube = get_or n 3 0 }))))
     ∷ []
 
--- ---- a line: the first form that fits, by its number from 1, with its numbers and pairs; 0 for a bad line
+-- ---- a line: what the first form that fits makes of it
 
-abbrev pub nothing : Fields
-nothing = record { form = 0; numbers = fit 5 []; count = 0; pairs = pair_bytes [] }
+-- the line that a form makes of what a text has for its marks, and beside it the pairs of a foreign 1b: the first sixteen, and zeros
+unfoldable pub line_as : Form → Fields → Parsed
+line_as f r = record { line = f.1 r.numbers r.count; pairs = r.pairs }
 
--- what a form with the number k found, else what the others found
-abbrev pub or_else : Option Said → ℕ → Fields → Fields
-or_else (some r) k f = record { form = k; numbers = fit 5 r.0; count = length r.1; pairs = pair_bytes r.1 }
-or_else none k f = f
+-- what a text says by the first form that fits
+abbrev pub found : List Form → List ℕ → Option Parsed
+found [] s = None
+found (f ∷ l) s = option_or (option_map (line_as f) (by_form f.0 s 0 [])) (found l s)
 
-abbrev pub found : List Form → ℕ → List ℕ → Fields
-found [] k s = nothing
-found (f ∷ l) k s = or_else (by_form f.0 s 0 []) k (found l (suc k) s)
+-- what a line says, if a form fits: "a line has at most 200 bytes before its newline"
+unfoldable pub fields_of : List ℕ → Option Parsed
+fields_of s = pick (leb (length s) 200) (found forms s) None
 
--- the line of the form with the number k, of forms numbered from i on
-abbrev pub made : List Form → ℕ → ℕ → List ℕ → ℕ → Line
-made [] i k n c = Bad
-made (f ∷ l) i k n c = pick (eqb k i) (f.1 n c) (made l (suc i) k n c)
-
-unfoldable pub line_as : Fields → Line
-line_as f = made forms 1 f.form f.numbers f.count
-
--- "a line has at most 200 bytes before its newline"
-unfoldable pub fields_of : List ℕ → Fields
-fields_of s = pick (leb (length s) 200) (found forms 1 s) nothing
-
--- what a line says
-unfoldable pub line_of : List ℕ → Line
-line_of s = line_as (fields_of s)
-
--- and beside it the pairs of a foreign 1b: the first sixteen, and zeros
+-- what a line says: one that no form fits is bad
 unfoldable pub parsed : List ℕ → Parsed
-parsed s = record { line = line_of s; pairs = (fields_of s).pairs }
+parsed s = unwrap_or (fields_of s) (record { line = Bad; pairs = pair_bytes [] })
+
+-- what a line is
+unfoldable pub line_of : List ℕ → Line
+line_of s = (parsed s).line

@@ -1,53 +1,35 @@
 // A decimal at a place of a text.
-ghost use Rattle.std.specs.Prelude.{◌≡◌, true, ◌≤◌};
-ghost use Rattle.lines.specs.Decimal.{most, is_digit, follows, number_at};
+ghost use Rattle.std.specs.Prelude.{◌≡◌, ◌≤◌, Some, None, IfSome, true, length};
+ghost use Rattle.rules.specs.Tests.{pick};
+ghost use Rattle.lines.specs.Decimal.{is_digit, follows, longer, number_at};
 
-use crate::Number;
-
-fn is_digit(b: u8) -> bool
-    ensures { result ≡ is_digit b }
+// The number with one digit more, if it may follow: no leading zero, and no number above the largest.
+fn longer(value: u32, b: u8) -> Option<u32>
+    requires { is_digit b ≡ true }
+    ensures { result ≡ pick (follows value b) (Some (longer value b)) None }
 {
-    if b < b'0' {
-        return false;
+    if value == 0 {
+        return None;
     }
-    b <= b'9'
+    value.checked_mul(10)?.checked_add(u32::from(b - b'0'))
 }
 
-// Whether a digit may follow a number: no leading zero, and no number above the largest.
-fn may_follow(value: u64, b: u8) -> bool
-    requires value_le_most { value ≤ most }
-    requires b_value { is_digit b ≡ true }
-    ensures { result ≡ follows value b }
+// The decimal at a place of a text, and where it ends.
+pub fn read_number(s: &[u8], at: usize) -> Option<(u32, usize)>
+    ensures value { result ≡ number_at s.now at }
+    ensures within { IfSome result (λ p. p.1 ≤ length s.now) }
 {
-    if value < 1 {
-        return false;
+    let first = *s.get(at)?;
+    if !first.is_ascii_digit() {
+        return None;
     }
-    value * 10 + (b - b'0') as u64 <= 4294967295
-}
-
-// The decimal at a place of a text.
-pub fn read_number(s: &[u8], at: usize) -> Number
-    ensures { result ≡ number_at s.now at }
-{
-    if s.len() <= at {
-        return Number::Bad;
-    }
-    let first = s[at];
-    if !is_digit(first) {
-        return Number::Bad;
-    }
-    let mut value = (first - b'0') as u64;
-    let mut end = at + 1;
-    while end < s.len() {
+    let mut value = u32::from(first - b'0');
+    for end in at + 1..s.len() {
         let b = s[end];
-        if !is_digit(b) {
-            return Number::At(value as u32, end);
+        if !b.is_ascii_digit() {
+            return Some((value, end));
         }
-        if !may_follow(value, b) {
-            return Number::Bad;
-        }
-        value = value * 10 + (b - b'0') as u64;
-        end += 1;
+        value = longer(value, b)?;
     }
-    Number::At(value as u32, end)
+    Some((value, s.len()))
 }

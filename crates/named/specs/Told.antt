@@ -1,11 +1,6 @@
 -- A reply's numbers as the code holds them, in the words of the rules.
-use Rattle.std.specs.Prelude.{ℕ}
 use Rattle.rules.specs.Replies as replies
 use Rattle.named.specs.declared.Answer.{Answer}
 
 abbrev pub told : Answer → replies.Answer
 told a = record { number = a.number; value = a.value; waiting = a.waiting; stopped = a.stopped }
-
--- a number and a value, and no more
-abbrev pub brief : ℕ → ℕ → replies.Answer
-brief k v = record { number = k; value = v; waiting = 0; stopped = 0 }

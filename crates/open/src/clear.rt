@@ -4,7 +4,7 @@ ghost use Rattle.rules.specs.Tests.{many};
 ghost use Rattle.rules.specs.Words.{fresh};
 ghost use Rattle.rules.specs.Lent.{patch, encode, stored_cell};
 
-// The first n cells fresh; the bytes after them stay.
+// The first n cells fresh; the bytes after them stay. The number stays beside the slice here and below: docs/SLIPS.md names both functions, and what they promise is of the whole area.
 pub fn fresh_cells(cells: &mut [u8], n: usize)
     requires n_bound { n ≤ 512 }
     requires n_in_bounds { 36 * n ≤ length cells.old }

@@ -1,3 +1,3 @@
-pub mod Listed
-pub mod Order
+pub mod Sets
 pub mod Started
+pub mod Dues

@@ -1,233 +1,162 @@
 // The sheet's headings as they are read, line by line, and the opening of the room that they ask for.
 #![tactic(auto)]
 
-ghost use Rattle.std.specs.Prelude.{◌≡◌, List, ℕ, ◌≤◌, eqb, length, take, set};
-ghost use Rattle.rules.specs.Tests.{pick};
+ghost use Rattle.std.specs.Prelude.{◌≡◌, []};
 ghost use Rattle.rules.specs.Lent.{memory};
 ghost use Rattle.page.specs.Sheet as sheet;
-ghost use Rattle.page.specs.Held.{sets_of, heads_of, Started};
+ghost use Rattle.page.specs.Held.{due_of, sets_of, heads_of, Started};
 
 use lines::{Heading, Line};
+use named::Answer;
+use open::Plan;
 use rules::House;
 
-// The headings as far as they were read: what is due next, the four counts, and the sets of either list.
-#[derive(Clone, Copy)]
-pub struct Heads {
-    pub due: u8,
-    pub counts: [u32; 4],
-    pub quorums: [u32; 65],
-    pub listed: usize,
-    pub weaks: [u32; 65],
-    pub backers: usize,
+// What is due next.
+#[derive(Clone, Copy, PartialEq, Eq)]
+pub enum Due {
+    Nodes,
+    Faulty,
+    Rows,
+    Capacity,
+    Quorum,
+    Weak, // a weak set, or one more quorum
+    Weaks, // one more weak set, or the line that begins the steps
+    Step, // the room is open, and a step is due
+    Nothing, // the sheet has ended
 }
 
 // The sets of one list.
 #[derive(Clone, Copy)]
-struct Sets {
+pub struct Listed {
     sets: [u32; 65],
     count: usize,
 }
 
-// What opening leaves: the headings, the house record, and the number that is printed.
+impl Listed {
+    // 64 may be listed; of a longer list one set more is held, so that opening refuses it.
+    const HELD: usize = 65;
+
+    fn none() -> Self
+        ensures { sets_of result ≡ [] }
+    {
+        Listed {
+            sets: [0; 65],
+            count: 0,
+        }
+    }
+
+    // One set more, if there is room.
+    fn put(&mut self, set: u32)
+        ensures { sets_of self.new ≡ sheet.added set (sets_of self.old) }
+    {
+        if self.count < Self::HELD {
+            self.sets[self.count] = set;
+            self.count += 1;
+        }
+    }
+
+    // The sets that are held.
+    fn held(&self) -> &[u32]
+        ensures { result.now ≡ sets_of self.now }
+    {
+        &self.sets[..self.count.min(Self::HELD)]
+    }
+}
+
+// The headings as far as they were read: what is due next, the four counts, and the sets of either list.
 #[derive(Clone, Copy)]
-pub struct Start {
-    pub heads: Heads,
-    pub house: House,
-    pub number: u8,
+pub struct Heads {
+    pub due: Due,
+    pub nodes: u32,
+    pub faulty: u32,
+    pub rows: u32,
+    pub capacity: u32,
+    pub quorums: Listed,
+    pub weaks: Listed,
 }
 
 // Before the first line.
 pub fn unread() -> Heads
     ensures { heads_of result ≡ sheet.unread }
 {
-    let counts = [0u32; 4];
-    let quorums = [0u32; 65];
-    let weaks = [0u32; 65];
     Heads {
-        due: 0,
-        counts,
-        quorums,
-        listed: 0,
-        weaks,
-        backers: 0,
+        due: Due::Nodes,
+        nodes: 0,
+        faulty: 0,
+        rows: 0,
+        capacity: 0,
+        quorums: Listed::none(),
+        weaks: Listed::none(),
     }
-}
-
-// A line's place in the order of the headings; 9 for a line that is no heading.
-fn sort(line: Line) -> u8
-    ensures value { result ≡ sheet.sort line }
-    ensures upper_bound { result ≤ 9 }
-{
-    match line {
-        Line::Heading(heading) => match heading {
-            Heading::Nodes(_) => 0,
-            Heading::Faulty(_) => 1,
-            Heading::Rows(_) => 2,
-            Heading::Capacity(_) => 3,
-            Heading::Quorum(_) => 4,
-            Heading::Weak(_) => 5,
-        },
-        Line::Step(_) => 9,
-        Line::Bad => 9,
-    }
-}
-
-// A heading's number.
-fn said(line: Line) -> u32
-    ensures { result ≡ sheet.said line }
-{
-    match line {
-        Line::Heading(heading) => match heading {
-            Heading::Nodes(n) => n,
-            Heading::Faulty(n) => n,
-            Heading::Rows(n) => n,
-            Heading::Capacity(n) => n,
-            Heading::Quorum(n) => n,
-            Heading::Weak(n) => n,
-        },
-        Line::Step(_) => 0,
-        Line::Bad => 0,
-    }
-}
-
-// What is due after a line of the sort k.
-fn next_due(due: u8, k: u8) -> u8
-    requires { k ≤ 9 }
-    ensures { result ≡ sheet.next due k }
-{
-    if k == due {
-        return due + 1;
-    }
-    if (5 <= due) & (k + 1 == due) {
-        return due;
-    }
-    if due == 6 {
-        return 7;
-    }
-    8
-}
-
-// The counts with the number of a heading of the sort k, if it is a count's.
-fn counted(mut counts: [u32; 4], k: u8, n: u32) -> [u32; 4]
-    ensures { result ≡ set counts k n }
-{
-    if 4 <= k {
-        return counts;
-    }
-    counts[k as usize] = n;
-    counts
-}
-
-// A list with its next set, if the heading is one of the list's and there is room.
-fn listing(mut sets: [u32; 65], count: usize, own: bool, n: u32) -> Sets
-    ensures { sets_of result ≡ pick own (sheet.added n (take count sets)) (take count sets) }
-{
-    if !own {
-        return Sets { sets, count };
-    }
-    if 65 <= count {
-        return Sets { sets, count };
-    }
-    sets[count] = n;
-    Sets {
-        sets,
-        count: count + 1,
-    }
-}
-
-// The headings with the number n of a heading of the sort k, after which d is due.
-fn kept(h: Heads, k: u8, n: u32, d: u8) -> Heads
-    requires { d ≡ sheet.next h.due k }
-    ensures { heads_of result ≡ sheet.kept (heads_of h) k n }
-{
-    let counts = h.counts;
-    let counts = counted(counts, k, n);
-    let quorums = h.quorums;
-    let q = listing(quorums, h.listed, k == 4, n);
-    let weaks = h.weaks;
-    let w = listing(weaks, h.backers, k == 5, n);
-    let quorums = q.sets;
-    let weaks = w.sets;
-    Heads {
-        due: d,
-        counts,
-        quorums,
-        listed: q.count,
-        weaks,
-        backers: w.count,
-    }
-}
-
-// The headings, with d due next.
-fn due_now(mut h: Heads, d: u8) -> Heads
-    ensures { heads_of result ≡ sheet.due_now (heads_of h) d }
-{
-    h.due = d;
-    h
 }
 
 // The headings after a line while a heading is due: one that ends the headings is not kept.
-pub fn headed(h: Heads, line: Line) -> Heads
-    ensures { heads_of result ≡ sheet.headed (heads_of h) line }
+// After a weak set any line of another form begins the steps, and before that it is bad.
+#[tactic(auto, unfolding(crate::specs::Sheet::headed, crate::specs::Sheet::kept, crate::specs::Sheet::next))]
+pub fn headed(heads: &mut Heads, line: Line)
+    ensures { heads_of heads.new ≡ sheet.headed (heads_of heads.old) line }
 {
-    let k = sort(line);
-    let d = next_due(h.due, k);
-    if 7 <= d {
-        return due_now(h, d);
+    let Line::Heading(heading) = line else {
+        heads.due = match heads.due {
+            Due::Weaks => Due::Step,
+            _ => Due::Nothing,
+        };
+        return;
+    };
+    match (heads.due, heading) {
+        (Due::Nodes, Heading::Nodes(n)) => {
+            heads.nodes = n;
+            heads.due = Due::Faulty;
+        }
+        (Due::Faulty, Heading::Faulty(n)) => {
+            heads.faulty = n;
+            heads.due = Due::Rows;
+        }
+        (Due::Rows, Heading::Rows(n)) => {
+            heads.rows = n;
+            heads.due = Due::Capacity;
+        }
+        (Due::Capacity, Heading::Capacity(n)) => {
+            heads.capacity = n;
+            heads.due = Due::Quorum;
+        }
+        (Due::Quorum, Heading::Quorum(n)) => {
+            heads.quorums.put(n);
+            heads.due = Due::Weak;
+        }
+        (Due::Weak, Heading::Quorum(n)) => heads.quorums.put(n),
+        (Due::Weak, Heading::Weak(n)) => {
+            heads.weaks.put(n);
+            heads.due = Due::Weaks;
+        }
+        (Due::Weaks, Heading::Weak(n)) => heads.weaks.put(n),
+        (Due::Weaks, _) => heads.due = Due::Step,
+        _ => heads.due = Due::Nothing,
     }
-    let n = said(line);
-    kept(h, k, n, d)
 }
 
-// How many sets of a list there is room for.
-fn held(count: usize) -> usize
-    ensures upper_bound { result ≤ 65 }
-    ensures by_index { (sets : List ℕ) → length sets ≡ 65 → take result sets ≡ take count sets }
+// Opens the room that the headings ask for, and tells the number that is printed; a refusal changes no memory and ends the sheet.
+pub fn open_room(
+    heads: &mut Heads,
+    house: &mut House,
+    board: &[u8],
+    cells: &mut [u8],
+    heard: &mut [u8],
+) -> u8
+    ensures { Started (heads_of heads.old) (memory house.old board.now cells.old heard.old) (heads_of heads.new) (memory house.new board.now cells.new heard.new) result }
 {
-    if count < 65 {
-        return count;
-    }
-    65
-}
-
-// What is due after opening replied a number: a step, or nothing more.
-fn due_after(number: u8) -> u8
-    ensures { result ≡ pick (eqb number 0) 7 8 }
-{
-    if number == 0 {
-        return 7;
-    }
-    8
-}
-
-// Opens the room that the headings ask for; a refusal changes nothing and ends the sheet.
-pub fn open_room(h: Heads, house: House, board: &[u8], cells: &mut [u8], heard: &mut [u8]) -> Start
-    ensures { Started (heads_of h) (memory house board.now cells.old heard.old) (heads_of result.heads) (memory result.house board.now cells.new heard.new) result.number }
-{
-    let counts = h.counts;
-    let quorums = h.quorums;
-    let weaks = h.weaks;
-    let listed = held(h.listed);
-    let backers = held(h.backers);
-    let opening = open::open(
-        house,
-        board,
-        cells,
-        heard,
-        counts[0],
-        counts[1],
-        counts[2],
-        counts[3],
-        &quorums[..listed],
-        &weaks[..backers],
-    );
-    let reply = opening.reply;
-    let answer = named::in_numbers(reply);
-    let heads = due_now(h, due_after(answer.number));
-    let house = opening.house;
-    Start {
-        heads,
-        house,
-        number: answer.number,
-    }
+    let plan = Plan {
+        nodes: heads.nodes,
+        faulty: heads.faulty,
+        rows: heads.rows,
+        capacity: heads.capacity,
+        quorums: heads.quorums.held(),
+        weaks: heads.weaks.held(),
+    };
+    let reply = open::open(house, board, cells, heard, plan);
+    heads.due = match reply {
+        Ok(_) => Due::Step,
+        Err(_) => Due::Nothing,
+    };
+    Answer::from(reply).number
 }

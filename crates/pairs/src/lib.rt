@@ -51,7 +51,8 @@ pub fn pass(ask: Ask, t: u8, b: u8) -> bool
     }
 }
 
-// Whether each of the first count pairs passes.
+// Whether each of the first count pairs passes. Array and count are two parameters in this file: docs/DECISIONS.md names `removed` and `moved`, arrays by value that are
+// passed and returned, and a type that knows count ≤ 16 would ask more of their callers.
 pub fn each(pairs: [u8; 32], count: u8, ask: Ask) -> bool
     requires { count ≤ 16 }
     ensures { result ≡ all (passes ask) (pairs_of count pairs) }

@@ -7,7 +7,7 @@ use native.Mathlib.Nat.{add-suc, add-zero, mul-zero, mul-suc}
 use native.Mathlib.Numerals.{add-one}
 use native.Mathlib.Omega.{arith}
 use lib.ListN.{length, get_or, take}
-use lib.Seq.{take-suc}
+use lib.Seq.{take-suc, get_or-take, length-take-le}
 use Rattle.rules.specs.Tests.{any, all, any_below, all_below, distinct}
 use Rattle.rules.specs.Lent.{board_of, meaning, msg_at, intake_of}
 
@@ -90,6 +90,14 @@ board_build s (suc n) = rw (board_build s n)
 pub intake_build : (a b : List ℕ) (n : ℕ) → intake_of a b n ≡ build (λ i. (get_or a i 0, get_or b i 0)) n
 intake_build a b zero = refl
 intake_build a b (suc n) = rw (intake_build a b n)
+
+-- the intake of the first n of two lists is the first n scans
+fronts : (a b : List ℕ) (n k : ℕ) → k ≤ n → intake_of (take n a) (take n b) k ≡ intake_of a b k
+fronts a b n zero h = refl
+fronts a b n (suc k) h = rw (fronts a b n k (omega arith), get_or-take n a k 0 (omega arith), get_or-take n b k 0 (omega arith))
+
+pub intake_front : (a b : List ℕ) (n : ℕ) → n ≤ length a → intake_of (take n a) (take n b) (length (take n a)) ≡ intake_of a b n
+intake_front a b n h = rw (length-take-le n a h) (fronts a b n n (omega arith))
 
 pub take-build : (l : List ℕ) (n : ℕ) → n ≤ length l → take n l ≡ build (λ i. get_or l i 0) n
 take-build l zero h = refl

@@ -14,3 +14,4 @@ pub mod Forms
 pub mod Spare
 pub mod Scan
 pub mod Each
+pub mod Named

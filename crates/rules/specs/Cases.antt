@@ -113,7 +113,7 @@ cases =
     -- Our own, for the slips. Relays of several tubes do not make up a quorum: 12 until a third node relays tube 1.
     ∷ replies four (scan 3 70 ∷ scan 4 70 ∷ foreign (p2av 1 0 0 1) ∷ foreign (p2av 1 0 1 1) ∷ foreign (p2av 1 0 2 2) ∷ c2b 1 3 0 1 ∷ foreign (p2av 1 0 2 1) ∷ c2b 1 3 0 1 ∷ [])
     (0 ∷ 0 ∷ 0 ∷ 0 ∷ 0 ∷ 12 ∷ 0 ∷ 0 ∷ [])
-    -- A 2b below maxBal: 8, though its quorum is there too.
+    -- A 2b below max_bal: 8, though its quorum is there too.
     ∷ replies four (scan 3 70 ∷ foreign (p2av 1 0 0 1) ∷ foreign (p2av 1 0 1 1) ∷ foreign (p2av 1 0 2 1) ∷ c1a 1 1 ∷ c1b 1 3 1 ∷ c2b 1 3 0 1 ∷ [])
     (0 ∷ 0 ∷ 0 ∷ 0 ∷ 0 ∷ 0 ∷ 8 ∷ [])
     -- Votes for several tubes do not make up a quorum: the row is unchosen, both tubes wait.

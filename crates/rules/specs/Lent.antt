@@ -6,6 +6,9 @@ use Rattle.rules.specs.Words.{nodes_in, faulty_in, rows_in, bal_in, tube_in, cap
 use Rattle.rules.specs.declared.House.{House}
 use Rattle.rules.specs.declared.Message.{Message}
 use Rattle.rules.specs.declared.Cell as cell_as_stored
+use Rattle.rules.specs.declared.Lent.{Lent}
+use Rattle.rules.specs.declared.Kind.{Kind}
+use Rattle.rules.specs.declared.Kind.TheVariants.{OneA, OneB, OneC, TwoAv, TwoB}
 
 pub record Memory : Type 0 where
   pub house : House
@@ -15,6 +18,18 @@ pub record Memory : Type 0 where
 
 abbrev pub memory : House → List ℕ → List ℕ → List ℕ → Memory
 memory h b c k = record { house = h; board = b; cells = c; heard = k }
+
+-- the byte that a message's kind is stored as
+abbrev pub kind_byte : Kind → ℕ
+kind_byte OneA = 1
+kind_byte OneB = 2
+kind_byte OneC = 3
+kind_byte TwoAv = 4
+kind_byte TwoB = 5
+
+-- memory as a call is lent it to read
+abbrev pub lent : Lent → Memory
+lent m = memory m.house.now m.board.now m.cells.now m.heard.now
 
 -- the part of w bytes numbered k of an area
 abbrev pub window : ℕ → ℕ → List ℕ → List ℕ

@@ -1,5 +1,5 @@
 -- "What each call may reply": each call's tests in order, its answer, the memory it leaves, opening, and runs.
-use Rattle.std.specs.Prelude.{◌≡◌, Bool, true, false, not, ◌&&◌, ◌||◌, List, [], ◌∷◌, ◌++◌, ℕ, suc, ◌*◌, eqb, leb, ltb, length}
+use Rattle.std.specs.Prelude.{◌≡◌, ◌⊎◌, Bool, true, false, not, ◌&&◌, ◌||◌, List, [], ◌∷◌, ◌++◌, ℕ, suc, ◌<◌, Result, Ok, Err, ◌*◌, eqb, leb, ltb, length}
 use Rattle.rules.specs.Tests.{pick, all, eqs, fit, many, first}
 use Rattle.rules.specs.Words.{nodes_in, faulty_in, rows_in, bal_in, capacity_in, list_in, scan_in, m1a, m1c, m2av, m2b, fresh, Room, State}
 use Rattle.rules.specs.Lent.{Memory, patch, pairs_of, pair_bytes, encode, stored_cell, room_of, row_in, read, tables, counts, long, limits, scanned, is_1b_at, in_form}
@@ -8,10 +8,11 @@ use Rattle.rules.specs.Book.{outcome, tube_of, is_split, book_of, waiting_of, st
 use Rattle.rules.specs.declared.House.{House}
 use Rattle.rules.specs.declared.Refusal.{Refusal}
 use Rattle.rules.specs.declared.Refusal.TheVariants.{CountOutside, AbsentNode, SmallOverlap, SmallWeak, ShortArea, OutsideLimits, NotOnIntake, LowBallot, NotAsked, RelayedAlready, NotKnownSafe, NoQuorum, NoPromise, PairsFull, BoardFull, IntakeFull, NotInForm, SplitRow, Malformed}
+use Rattle.rules.specs.declared.Unnamed.{Unnamed}
 use Rattle.rules.specs.declared.Stop.{Stop}
 use Rattle.rules.specs.declared.Stop.TheVariants.{RowsEnded, Unchosen, Split}
 use Rattle.rules.specs.declared.Reply.{Reply}
-use Rattle.rules.specs.declared.Reply.TheVariants.{Done, Told, Booked, Refused}
+use Rattle.rules.specs.declared.Reply.TheVariants.{Done, Told, Booked}
 
 -- ---- 6 and 7
 
@@ -152,11 +153,24 @@ stop_of RowsEnded = 0
 stop_of Unchosen = 1
 stop_of Split = 2
 
-abbrev pub answer_of : Reply → Answer
-answer_of Done = bare 0
-answer_of (Told t) = valued t.0
-answer_of (Booked n w k) = record { number = 0; value = n; waiting = w; stopped = stop_of k }
-answer_of (Refused x) = bare (number_of x)
+-- the refusal of a number: each of 1 to 19 has one, and no other
+abbrev pub Named : ℕ → Result Refusal Unnamed → Type 0
+Named k (Ok x) = number_of x ≡ k
+Named k (Err e) = (e.0 ≡ k) × ((k < 1) ⊎ (19 < k))
+
+-- the number that a test, or several in order, came to: 0 where none failed
+abbrev pub number_in : {A : Type 0} → Result A Refusal → ℕ
+number_in (Ok a) = 0
+number_in (Err x) = number_of x
+
+abbrev pub values_of : Reply → Answer
+values_of Done = bare 0
+values_of (Told t) = valued t.0
+values_of (Booked n w k) = record { number = 0; value = n; waiting = w; stopped = stop_of k }
+
+abbrev pub answer_of : Result Reply Refusal → Answer
+answer_of (Ok r) = values_of r
+answer_of (Err x) = bare (number_of x)
 
 -- the answer of an accepted call
 unfoldable pub tell : Room → State → Call → Answer

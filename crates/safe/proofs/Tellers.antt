@@ -1,5 +1,5 @@
 -- What is gathered of the heard messages: one message more, and known safe read from the sets.
-use mathlib.Core.Path.{◌≡◌, refl, ap, sym, subst, ◌∙◌}
+use mathlib.Core.Path.{◌≡◌, refl, ap, sym, ◌∙◌}
 use mathlib.Core.Bool.{Bool, true, false, ◌&&◌, ◌||◌, and-true, and-false, true≢false}
 use mathlib.Core.List.{List, [], ◌∷◌, ◌++◌}
 use Prim.Native.Nat.{ℕ, zero, suc, min, ◌+◌, ◌-◌, ◌*◌, ◌≤◌, ◌<◌}
@@ -8,17 +8,17 @@ use native.Mathlib.Numerals.{add-one}
 use native.Mathlib.Omega.{arith}
 use borrow.Author.Tests.{eq-eqb, eqb-true, le-ltb, lt-ltb, leb-true, leb-false}
 use lib.Dec.{eqb, leb, eqb-suc-zero}
-use lib.ListN.{length, get_or, get_or-eq_default}
-use Rattle.rules.specs.Tests.{pick, any, any_below, fit, bit}
+use lib.ListN.{length, get_or, take, get_or-eq_default}
+use Rattle.rules.specs.Tests.{pick, any, any_below, all_in, bit}
 use Rattle.rules.specs.Words.{height_of, Pair, Msg, m1a, m1b, m1c, m2av, m2b, kind_of, Room}
 use Rattle.rules.specs.Lent.{memory, read, room_of, pairs_of, meaning, msg_at, board_of, heard_at, heard_of}
-use Rattle.rules.specs.Steps.{shown, reaches, tells, heard_from, full, covers, known}
+use Rattle.rules.specs.Steps.{shown, reaches, tells, heard_from, covers, known}
 use Rattle.rules.specs.declared.House.{House}
 use Rattle.rules.specs.declared.Message.{Message}
 use Rattle.rules.proofs.Codec.{or_no, any_last, length_board}
 use Rattle.rules.proofs.Scan.{turn, below_same, pairs_below}
 use Rattle.sets.specs.Sets.{joined, Gathered}
-use Rattle.sets.proofs.Full.{joined-bit, full_gathered, gathered_none}
+use Rattle.sets.proofs.Full.{joined-bit, full_gathered}
 use Rattle.board.proofs.Means.{means_1b}
 use Rattle.safe.specs.Safe.{asked, ask_at, says, with_teller, promise, Tells, safe_at, Ready}
 use Rattle.safe.specs.declared.Ask.{Ask}
@@ -128,19 +128,6 @@ module _ (t : Told) (m : Message) (r b v : ℕ) (l : List Msg) (g : Tells t r b 
     shown = λ c h. gather_step (ask_at true c v) m r b (get_or t.shown c 0) (get_or t'.shown c 0) l (rw e (s c h)) (g.shown c h);
   }
 
--- nothing heard
-zeros : (n c : ℕ) → get_or (fit n []) c 0 ≡ 0
-zeros zero c = refl
-zeros (suc n) zero = refl
-zeros (suc n) (suc c) = zeros n c
-
-pub told-start : (r b v : ℕ) → Tells (record { none = 0; low = fit 16 []; shown = fit 16 [] }) r b v []
-told-start r b v = record {
-  none = gathered_none (λ a. any (tells (asked Empty) r b a) []) (λ a. refl);
-  low = λ c h. subst (λ (z : ℕ). Gathered z (λ a. any (tells (asked (ask_at false c v)) r b a) [])) (sym (zeros 16 c)) (gathered_none (λ a. any (tells (asked (ask_at false c v)) r b a) []) (λ a. refl));
-  shown = λ c h. subst (λ (z : ℕ). Gathered z (λ a. any (tells (asked (ask_at true c v)) r b a) [])) (sym (zeros 16 c)) (gathered_none (λ a. any (tells (asked (ask_at true c v)) r b a) []) (λ a. refl));
-}
-
 -- ---- the heard messages
 
 heard_last : (h : ℕ → Bool) (j : ℕ) (l : List Msg) (x : Msg) → heard_from h j (l ++ (x ∷ [])) ≡ heard_from h j l ++ pick (h (j + length l)) (x ∷ []) []
@@ -195,8 +182,17 @@ module _ (h : House) (s k : List ℕ) (r n b v : ℕ) (t : Told) (y : Ready h s 
       λ i. sym (full_gathered ρ ρ.quorums (get_or t.low c 0) (λ a. any (tells (asked (ask_at false c v)) r b a) l) y.nodes (g.low c d)) i
       && sym (full_gathered ρ ρ.weaks (get_or t.shown c 0) (λ a. any (tells (asked (ask_at true c v)) r b a) l) y.nodes (g.shown c d)) i
 
-  pub known_sets : (cells : List ℕ) → known ρ (read (memory h s cells k)) r n b v ≡ full ρ ρ.quorums (bit t.none) || any_below (safe_at h t) b
-  known_sets cells =
-      ap known_of same_heard
-      ∙ (λ i. sym (full_gathered ρ ρ.quorums t.none (λ a. any (tells (asked Empty) r b a) l) y.nodes g.none) i
-      || below_same (λ c. covers ρ ρ.quorums (tells (asked (ask_at false c v)) r b) l && covers ρ ρ.weaks (tells (asked (ask_at true c v)) r b) l) (safe_at h t) b at_c i)
+  -- by the steps of the search: x says whether part i holds, z whether part ii does
+  module _ (cells : List ℕ) {j : ℕ} {x : Bool} (d : j ≡ h.listed) (e : x ≡ any (λ q. all_in h.nodes q (bit t.none)) (take j h.quorums)) where
+    parts : known ρ (read (memory h s cells k)) r n b v ≡ x || any_below (safe_at h t) b
+    parts =
+        ap known_of same_heard
+        ∙ (λ i. sym (full_gathered ρ ρ.quorums t.none (λ a. any (tells (asked Empty) r b a) l) y.nodes g.none) i
+        || below_same (λ c. covers ρ ρ.quorums (tells (asked (ask_at false c v)) r b) l && covers ρ ρ.weaks (tells (asked (ask_at true c v)) r b) l) (safe_at h t) b at_c i)
+        ∙ ap (λ (z : Bool). z || any_below (safe_at h t) b) (sym (rw d at e))
+
+    pub known_i : x ≡ true → x ≡ known ρ (read (memory h s cells k)) r n b v
+    known_i f = f ∙ sym (parts ∙ ap (λ (z : Bool). z || any_below (safe_at h t) b) f)
+
+    pub known_ii : {z : Bool} → x ≡ false → z ≡ any_below (safe_at h t) b → z ≡ known ρ (read (memory h s cells k)) r n b v
+    known_ii f q = q ∙ sym (parts ∙ ap (λ (z : Bool). z || any_below (safe_at h t) b) f)

@@ -86,30 +86,24 @@ pub fn grown(sets: [u8; 16], m: rules::Message, weak: bool, tube: u8) -> [u8; 16
 }
 
 // Whether a message is a 1b of this row and ballot.
-#[tactic(auto, using(crate::proofs::Tellers::promise_reads))]
+#[tactic(auto, using(crate::proofs::Tellers::promise_reads, board::proofs::Means::is_one_b))]
 pub fn is_promise(m: rules::Message, row: rules::Row, ballot: rules::Ballot) -> bool
     ensures { result ≡ promise row.0 ballot.0 m }
 {
-    board::kind_of(m) == 2 && m.row == row.0 && m.bal == ballot.0
+    board::kind_of(m) == rules::Kind::OneB && m.row == row.0 && m.bal == ballot.0
 }
 
 // One heard message more.
-pub fn told_more(
-    t: Told,
-    m: rules::Message,
-    row: rules::Row,
-    ballot: rules::Ballot,
-    tube: rules::Tube,
-) -> Told
-    ensures { (l : List Msg) → Tells t row.0 ballot.0 tube.0 l → Tells result row.0 ballot.0 tube.0 (l ++ (meaning m ∷ [])) }
+pub fn told_more(t: Told, m: rules::Message, bid: rules::Bid) -> Told
+    ensures { (l : List Msg) → Tells t bid.row.0 bid.ballot.0 bid.tube.0 l → Tells result bid.row.0 bid.ballot.0 bid.tube.0 (l ++ (meaning m ∷ [])) }
 {
-    if !is_promise(m, row, ballot) {
+    if !is_promise(m, bid.row, bid.ballot) {
         return t;
     }
     Told {
         none: with_teller(t.none, m, Ask::Empty),
-        low: grown(t.low, m, false, tube.0),
-        shown: grown(t.shown, m, true, tube.0),
+        low: grown(t.low, m, false, bid.tube.0),
+        shown: grown(t.shown, m, true, bid.tube.0),
     }
 }
 
@@ -131,36 +125,26 @@ pub fn heard_more(
     board: &[u8],
     heard: &[u8],
     k: usize,
-    row: rules::Row,
     node: rules::Node,
-    ballot: rules::Ballot,
-    tube: rules::Tube,
+    bid: rules::Bid,
 ) -> Told
     requires node_bound { (node.0 < 8) × (k < 1024) }
     requires k_in_bounds { 40 * k + 40 ≤ length board.now }
     requires node_in_bounds { 128 * node.0 + 128 ≤ length heard.now }
-    ensures { (l : List Msg) → Tells t row.0 ballot.0 tube.0 l → Tells result row.0 ballot.0 tube.0 (l ++ pick (heard_at heard.now node.0 k) (meaning (msg_at board.now k) ∷ []) []) }
+    ensures { (l : List Msg) → Tells t bid.row.0 bid.ballot.0 bid.tube.0 l → Tells result bid.row.0 bid.ballot.0 bid.tube.0 (l ++ pick (heard_at heard.now node.0 k) (meaning (msg_at board.now k) ∷ []) []) }
 {
     if !heard_at(heard, node, k) {
         return t;
     }
-    told_more(t, board::msg_at(board, k), row, ballot, tube)
+    told_more(t, board::msg_at(board, k), bid)
 }
 
 // All that a node has heard of the first n messages: one pass.
-pub fn gathered(
-    board: &[u8],
-    heard: &[u8],
-    n: usize,
-    row: rules::Row,
-    node: rules::Node,
-    ballot: rules::Ballot,
-    tube: rules::Tube,
-) -> Told
+pub fn gathered(board: &[u8], heard: &[u8], n: usize, node: rules::Node, bid: rules::Bid) -> Told
     requires node_bound { (node.0 < 8) × (n ≤ 1024) }
     requires n_in_bounds { 40 * n ≤ length board.now }
     requires node_in_bounds { 128 * node.0 + 128 ≤ length heard.now }
-    ensures { Tells result row.0 ballot.0 tube.0 (heard_from (heard_at heard.now node.0) 0 (board_of board.now n)) }
+    ensures { Tells result bid.row.0 bid.ballot.0 bid.tube.0 (heard_from (heard_at heard.now node.0) 0 (board_of board.now n)) }
 {
     let mut t = Told {
         none: 0,
@@ -168,27 +152,27 @@ pub fn gathered(
         shown: [0; 16],
     };
     for i in 0..n {
-        t = heard_more(t, board, heard, i, row, node, ballot, tube);
+        t = heard_more(t, board, heard, i, node, bid);
     }
     t
 }
 
 // (ii) for one c: a full quorum of low ones, and a full weak set of those that show the tube.
-pub fn safe_at(h: rules::House, t: Told, c: u8) -> bool
-    requires nodes_bound { (h.nodes ≤ 8) × ((h.listed ≤ 64) × (h.backers ≤ 64)) }
+pub fn safe_at(h: &rules::House, t: Told, c: u8) -> bool
+    requires nodes_bound { (h.now.nodes ≤ 8) × ((h.now.listed ≤ 64) × (h.now.backers ≤ 64)) }
     requires c_bound { c < 16 }
-    ensures { result ≡ safe_at h t c }
+    ensures { result ≡ safe_at h.now t c }
 {
     let k = usize::from(c);
-    sets::some_full(h.quorums, h.listed, h.nodes, t.low[k])
-        && sets::some_full(h.weaks, h.backers, h.nodes, t.shown[k])
+    sets::some_full(&h.quorums[..usize::from(h.listed)], h.nodes, t.low[k])
+        && sets::some_full(&h.weaks[..usize::from(h.backers)], h.nodes, t.shown[k])
 }
 
 // (ii) for some c below the ballot.
-pub fn safe_below(h: rules::House, t: Told, ballot: rules::Ballot) -> bool
-    requires nodes_bound { (h.nodes ≤ 8) × ((h.listed ≤ 64) × (h.backers ≤ 64)) }
+pub fn safe_below(h: &rules::House, t: Told, ballot: rules::Ballot) -> bool
+    requires nodes_bound { (h.now.nodes ≤ 8) × ((h.now.listed ≤ 64) × (h.now.backers ≤ 64)) }
     requires ballot_bound { ballot.0 ≤ 16 }
-    ensures { result ≡ any_below (safe_at h t) ballot.0 }
+    ensures { result ≡ any_below (safe_at h.now t) ballot.0 }
 {
     for c in 0..ballot.0 {
         if safe_at(h, t, c) {
@@ -200,17 +184,16 @@ pub fn safe_below(h: rules::House, t: Told, ballot: rules::Ballot) -> bool
 
 // Whether the tube is known safe to the node in this row and ballot.
 pub fn known_safe(
-    h: rules::House,
+    h: &rules::House,
     board: &[u8],
     heard: &[u8],
-    row: rules::Row,
     node: rules::Node,
-    ballot: rules::Ballot,
-    tube: rules::Tube,
+    bid: rules::Bid,
 ) -> bool
-    requires { Ready h board.now heard.now node.0 ballot.0 }
-    ensures { (cells : List ℕ) → result ≡ known (room_of h) (read (memory h board.now cells heard.now)) row.0 node.0 ballot.0 tube.0 }
+    requires { Ready h.now board.now heard.now node.0 bid.ballot.0 }
+    ensures { (cells : List ℕ) → result ≡ known (room_of h.now) (read (memory h.now board.now cells heard.now)) bid.row.0 node.0 bid.ballot.0 bid.tube.0 }
 {
-    let t = gathered(board, heard, usize::from(h.count), row, node, ballot, tube);
-    sets::some_full(h.quorums, h.listed, h.nodes, t.none) || safe_below(h, t, ballot)
+    let t = gathered(board, heard, usize::from(h.count), node, bid);
+    sets::some_full(&h.quorums[..usize::from(h.listed)], h.nodes, t.none)
+        || safe_below(h, t, bid.ballot)
 }

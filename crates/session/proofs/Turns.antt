@@ -45,7 +45,7 @@ module _ (h : Heads) (m : Memory) (g : Heads) (m' : Memory) (k : ℕ) (b : Start
   refused n = begins_as ∙ rw (ne_eqb g.due 7 n)
 
   opened : g.due ≡ 7 → let t = stepped g m' p.line p.pairs in begins h m p ≡ record { sheet = t.sheet; prints = answer_text k 0 ++ t.prints }
-  opened e = begins_as ∙ rw (eq-eqb g.due 7 e)
+  opened e = begins_as ∙ rw e
 
   pub took_refused : {s s' : List ℕ} {e : ℕ} → (g.due ≡ 7 → ⊥) → Wrote s 0 (answer_text k 0) e s' → Took (begins h m p) (sheet_of g m') s 0 e s'
   took_refused n w = as_turn (refused n) (record { keeps = refl; prints = w })
@@ -65,10 +65,10 @@ module _ (h : Heads) (m : Memory) (p : Parsed) (g : Heads) (e : g ≡ headed h p
   heading_as = ap heading_from (sym e)
 
   pub heading-begins : g.due ≡ 7 → heading h m p ≡ begins g m p
-  heading-begins d = heading_as ∙ rw (eq-eqb g.due 7 d)
+  heading-begins d = heading_as ∙ rw d
 
-  pub heading_bad : (g.due ≡ 7 → ⊥) → g.due ≡ 8 → heading h m p ≡ turn g m malformed
-  heading_bad n d = heading_as ∙ rw (ne_eqb g.due 7 n, eq-eqb g.due 8 d)
+  pub heading_bad : g.due ≡ 8 → heading h m p ≡ turn g m malformed
+  heading_bad d = heading_as ∙ rw d
 
   pub heading_on : (g.due ≡ 7 → ⊥) → (g.due ≡ 8 → ⊥) → heading h m p ≡ turn g m []
   heading_on n k = heading_as ∙ rw (ne_eqb g.due 7 n, ne_eqb g.due 8 k)
@@ -78,15 +78,15 @@ module _ (h : Heads) (m : Memory) (p : Parsed) (g : Heads) (e : g ≡ headed h p
 module _ (h : Heads) (m : Memory) (p : Parsed) where
   pub takes_none : h.due ≡ 8 → takes (sheet_of h m) p ≡ turn h m []
   unfolding takes
-  takes_none e = rw (eq-eqb h.due 8 e)
+  takes_none e = rw e
 
   pub takes-heading : (h.due ≡ 8 → ⊥) → (h.due ≡ 7 → ⊥) → takes (sheet_of h m) p ≡ heading h m p
   unfolding takes
   takes-heading n k = rw (ne_eqb h.due 8 n, ne_eqb h.due 7 k)
 
-  pub takes_step : (h.due ≡ 8 → ⊥) → h.due ≡ 7 → takes (sheet_of h m) p ≡ stepped h m p.line p.pairs
+  pub takes_step : h.due ≡ 7 → takes (sheet_of h m) p ≡ stepped h m p.line p.pairs
   unfolding takes
-  takes_step n e = rw (ne_eqb h.due 8 n, eq-eqb h.due 7 e)
+  takes_step e = rw e
 
 -- of a line that was read
 pub as_read : (h : Heads) (m : Memory) {p q : Parsed} {t : Turn} → p ≡ q → takes (sheet_of h m) p ≡ t → takes (sheet_of h m) q ≡ t
@@ -109,7 +109,7 @@ module _ (h : Heads) (m : Memory) (g : Heads) (m' : Memory) (k : ℕ) (b : Start
   ends_from o = o.prints ++ pick (eqb o.sheet.heads.due 7) (closes o.sheet.memory) []
 
   pub ends-opened : g.due ≡ 7 → opens_and_ends h m ≡ answer_text k 0 ++ closes m'
-  ends-opened e = ap ends_from (sym b.turn) ∙ rw (eq-eqb g.due 7 e)
+  ends-opened e = ap ends_from (sym b.turn) ∙ rw e
 
   pub ends_refused : (g.due ≡ 7 → ⊥) → opens_and_ends h m ≡ answer_text k 0 ++ []
   ends_refused n = ap ends_from (sym b.turn) ∙ rw (ne_eqb g.due 7 n)
@@ -117,15 +117,15 @@ module _ (h : Heads) (m : Memory) (g : Heads) (m' : Memory) (k : ℕ) (b : Start
 module _ (h : Heads) (m : Memory) where
   pub ends_none : h.due ≡ 8 → ends (sheet_of h m) ≡ []
   unfolding ends
-  ends_none e = rw (eq-eqb h.due 8 e)
+  ends_none e = rw e
 
-  pub ends_steps : (h.due ≡ 8 → ⊥) → h.due ≡ 7 → ends (sheet_of h m) ≡ closes m
+  pub ends_steps : h.due ≡ 7 → ends (sheet_of h m) ≡ closes m
   unfolding ends
-  ends_steps n e = rw (ne_eqb h.due 8 n, eq-eqb h.due 7 e)
+  ends_steps e = rw e
 
-  pub ends_weak : (h.due ≡ 8 → ⊥) → (h.due ≡ 7 → ⊥) → h.due ≡ 6 → ends (sheet_of h m) ≡ opens_and_ends h m
+  pub ends_weak : h.due ≡ 6 → ends (sheet_of h m) ≡ opens_and_ends h m
   unfolding ends
-  ends_weak n k e = rw (ne_eqb h.due 8 n, ne_eqb h.due 7 k, eq-eqb h.due 6 e)
+  ends_weak e = rw e
 
   pub ends_early : (h.due ≡ 8 → ⊥) → (h.due ≡ 7 → ⊥) → (h.due ≡ 6 → ⊥) → ends (sheet_of h m) ≡ malformed
   unfolding ends

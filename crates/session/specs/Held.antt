@@ -2,17 +2,11 @@
 use Rattle.std.specs.Prelude.{◌≡◌, List, [], ◌++◌, ℕ, eqb, take}
 use Rattle.rules.specs.Tests.{pick}
 use Rattle.rules.specs.Lent.{Memory, memory}
-use Rattle.lines.specs.declared.Line.{Line}
-use Rattle.lines.specs.declared.Parsed.{Parsed}
 use Rattle.closing.specs.Given.{Wrote}
 use Rattle.page.specs.Sheet.{Heads, sheet_of, opens, closes}
 use Rattle.page.specs.Held.{heads_of}
 use Rattle.session.specs.Feed.{Feed, Fed, feed_of}
 use Rattle.session.specs.declared.Session.{Session}
-
--- a line and the pairs beside it
-abbrev pub said : Line → List ℕ → Parsed
-said l ps = record { line = l; pairs = ps }
 
 -- the sheet, and of the line's bytes those that are held
 abbrev pub feed_for : Session → (line board cells heard : List ℕ) → Feed

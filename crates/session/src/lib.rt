@@ -9,12 +9,12 @@ ghost use Rattle.page.specs.Sheet.{unread, sheet_of, begins, heading, takes, end
 ghost use Rattle.page.specs.Held.{heads_of};
 ghost use Rattle.turn.specs.Given.{Took};
 ghost use Rattle.session.specs.Feed.{longer, feeds, last_line};
-ghost use Rattle.session.specs.Held.{said, feed_for, opens_and_ends, Ate};
+ghost use Rattle.session.specs.Held.{feed_for, opens_and_ends, Ate};
 ghost use Rattle.session.specs.Laws.{ReadAsLines, StepsAreCalls, ClosesInForm};
 
-use lines::Line;
-use page::Heads;
-use rules::House;
+use lines::Parsed;
+use page::{Due, Heads};
+use rules::{House, Lent, Refusal};
 
 // What a sheet promises, carried by a function that does nothing.
 pub fn sheets()
@@ -24,6 +24,7 @@ pub fn sheets()
 {}
 
 // A sheet between two bytes: its headings, its house record, and how many bytes of a line are held.
+// (a) `held` is a u8: `take_byte` and `finish` are lent 256 bytes for the line, which no number of bytes in it goes past.
 #[derive(Clone, Copy)]
 pub struct Session {
     pub heads: Heads,
@@ -31,156 +32,111 @@ pub struct Session {
     pub held: u8,
 }
 
-// A sheet after a line, and where its print ends.
-#[derive(Clone, Copy)]
-struct Taken {
-    heads: Heads,
-    house: House,
-    end: usize,
-}
-
-// A sheet after a byte, and how much was printed.
-#[derive(Clone, Copy)]
-pub struct Fed {
-    pub session: Session,
-    pub wrote: usize,
-}
-
-// The line that begins the steps: the opening, and then the step, if the room opened.
+// The line that begins the steps: the opening, and then the step, if the room opened. Tells where the print ends.
 fn begin_steps(
-    heads: Heads,
-    house: House,
-    line: Line,
-    pairs: [u32; 32],
+    heads: &mut Heads,
+    house: &mut House,
+    read: Parsed,
     board: &mut [u8],
     cells: &mut [u8],
     heard: &mut [u8],
     out: &mut [u8],
-) -> Taken
+) -> usize
     requires { 68 ≤ length out.old }
-    ensures took { Took (begins (heads_of heads) (memory house board.old cells.old heard.old) (said line pairs)) (sheet_of (heads_of result.heads) (memory result.house board.new cells.new heard.new)) out.old 0 result.end out.new }
-    ensures end_bound { result.end ≤ 68 }
+    ensures took { Took (begins (heads_of heads.old) (memory house.old board.old cells.old heard.old) read) (sheet_of (heads_of heads.new) (memory house.new board.new cells.new heard.new)) out.old 0 result out.new }
+    ensures end_bound { result ≤ 68 }
 {
-    let start = page::open_room(heads, house, board, cells, heard);
-    let at = closing::answer_line(out, 0, start.number, 0);
-    let opened = start.heads;
-    let house = start.house;
-    if opened.due != 7 {
-        return Taken {
-            heads: opened,
-            house: house,
-            end: at,
-        };
-    }
-    let told = turn::take_step(house, board, cells, heard, line, pairs, out, at);
-    let kept = told.house;
-    Taken {
-        heads: opened,
-        house: kept,
-        end: told.end,
+    let number = page::open_room(heads, house, board, cells, heard);
+    let at = closing::answer_line(out, 0, number, 0);
+    match heads.due {
+        Due::Step => turn::take_step(house, board, cells, heard, read.line, read.pairs, out, at),
+        _ => at,
     }
 }
 
 // A line while a heading is due.
 fn take_heading(
-    heads: Heads,
-    house: House,
-    line: Line,
-    pairs: [u32; 32],
+    heads: &mut Heads,
+    house: &mut House,
+    read: Parsed,
     board: &mut [u8],
     cells: &mut [u8],
     heard: &mut [u8],
     out: &mut [u8],
-) -> Taken
+) -> usize
     requires { 68 ≤ length out.old }
-    ensures took { Took (heading (heads_of heads) (memory house board.old cells.old heard.old) (said line pairs)) (sheet_of (heads_of result.heads) (memory result.house board.new cells.new heard.new)) out.old 0 result.end out.new }
-    ensures end_bound { result.end ≤ 68 }
+    ensures took { Took (heading (heads_of heads.old) (memory house.old board.old cells.old heard.old) read) (sheet_of (heads_of heads.new) (memory house.new board.new cells.new heard.new)) out.old 0 result out.new }
+    ensures end_bound { result ≤ 68 }
 {
-    let next = page::headed(heads, line);
-    if next.due == 7 {
-        return begin_steps(next, house, line, pairs, board, cells, heard, out);
-    }
-    if next.due == 8 {
-        let end = closing::answer_line(out, 0, 19, 0);
-        return Taken {
-            heads: next,
-            house: house,
-            end: end,
-        };
-    }
-    Taken {
-        heads: next,
-        house: house,
-        end: 0,
+    page::headed(heads, read.line);
+    match heads.due {
+        Due::Step => begin_steps(heads, house, read, board, cells, heard, out),
+        Due::Nothing => closing::answer_line(out, 0, Refusal::Malformed as u8, 0),
+        _ => 0,
     }
 }
 
 // What a line does and prints.
 fn take_line(
-    heads: Heads,
-    house: House,
+    heads: &mut Heads,
+    house: &mut House,
     text: &[u8],
     board: &mut [u8],
     cells: &mut [u8],
     heard: &mut [u8],
     out: &mut [u8],
-) -> Taken
+) -> usize
     requires { 68 ≤ length out.old }
-    ensures took { Took (takes (sheet_of (heads_of heads) (memory house board.old cells.old heard.old)) (parsed text.now)) (sheet_of (heads_of result.heads) (memory result.house board.new cells.new heard.new)) out.old 0 result.end out.new }
-    ensures end_bound { result.end ≤ 68 }
+    ensures took { Took (takes (sheet_of (heads_of heads.old) (memory house.old board.old cells.old heard.old)) (parsed text.now)) (sheet_of (heads_of heads.new) (memory house.new board.new cells.new heard.new)) out.old 0 result out.new }
+    ensures end_bound { result ≤ 68 }
 {
-    if heads.due == 8 {
-        return Taken {
-            heads: heads,
-            house: house,
-            end: 0,
-        };
-    }
-    let read = lines::read_line(text);
-    let line = read.line;
-    let pairs = read.pairs;
-    if heads.due != 7 {
-        return take_heading(heads, house, line, pairs, board, cells, heard, out);
-    }
-    let told = turn::take_step(house, board, cells, heard, line, pairs, out, 0);
-    let kept = told.house;
-    Taken {
-        heads: heads,
-        house: kept,
-        end: told.end,
+    match heads.due {
+        Due::Nothing => 0,
+        Due::Step => {
+            let read = lines::read_line(text);
+            turn::take_step(house, board, cells, heard, read.line, read.pairs, out, 0)
+        }
+        _ => take_heading(
+            heads,
+            house,
+            lines::read_line(text),
+            board,
+            cells,
+            heard,
+            out,
+        ),
     }
 }
 
-// A byte more of the line; of a long line 201 are kept, which are too many.
+// A line has at most 200 bytes; of a longer one 201 are held, which are too many.
+const HELD: u8 = 201;
+
+// A byte more of the line, if it is to be held.
 fn keep_byte(line: &mut [u8], held: u8, b: u8) -> u8
     requires { 256 ≤ length line.old }
     ensures { take result line.new ≡ longer (take held line.old) b }
 {
-    if 201 <= held {
+    if HELD <= held {
         return held;
     }
-    line[held as usize] = b;
+    line[usize::from(held)] = b;
     held + 1
 }
 
 // A house record of zeros, which stands until a room is opened.
 fn blank() -> House {
-    let quorums = [0u8; 64];
-    let weaks = [0u8; 64];
-    let stations = [0u8; 64];
-    let serials = [0u32; 64];
     House {
         nodes: 0,
         faulty: 0,
         rows: 0,
         capacity: 0,
         listed: 0,
-        quorums,
+        quorums: [0; 64],
         backers: 0,
-        weaks,
+        weaks: [0; 64],
         tubes: 0,
-        stations,
-        serials,
+        stations: [0; 64],
+        serials: [0; 64],
         marks: 0,
         count: 0,
     }
@@ -190,109 +146,98 @@ fn blank() -> House {
 pub fn begin() -> Session
     ensures { (heads_of result.heads ≡ unread) × (result.held ≡ 0) }
 {
-    let heads = page::unread();
-    let house = blank();
     Session {
-        heads: heads,
-        house: house,
+        heads: page::unread(),
+        house: blank(),
         held: 0,
     }
 }
 
-// What a byte does and prints.
+// What a byte does and prints; tells how much was printed.
 pub fn take_byte(
-    s: Session,
+    s: &mut Session,
     b: u8,
     line: &mut [u8],
     board: &mut [u8],
     cells: &mut [u8],
     heard: &mut [u8],
     out: &mut [u8],
-) -> Fed
+) -> usize
     requires in_bounds { 256 ≤ length line.old }
     requires in_bounds_2 { 68 ≤ length out.old }
-    ensures ate { Ate (feeds (feed_for s line.old board.old cells.old heard.old) b) (feed_for result.session line.new board.new cells.new heard.new) out.old result.wrote out.new }
-    ensures wrote_bound { result.wrote ≤ 68 }
+    ensures ate { Ate (feeds (feed_for s.old line.old board.old cells.old heard.old) b) (feed_for s.new line.new board.new cells.new heard.new) out.old result out.new }
+    ensures wrote_bound { result ≤ 68 }
 {
-    let heads = s.heads;
-    let house = s.house;
     if b != b'\n' {
-        let held = keep_byte(line, s.held, b);
-        return Fed {
-            session: Session {
-                heads: heads,
-                house: house,
-                held: held,
-            },
-            wrote: 0,
-        };
+        s.held = keep_byte(line, s.held, b);
+        return 0;
     }
-    let n = s.held as usize;
-    let taken = take_line(heads, house, &line[..n], board, cells, heard, out);
-    let heads = taken.heads;
-    let house = taken.house;
-    Fed {
-        session: Session {
-            heads: heads,
-            house: house,
-            held: 0,
-        },
-        wrote: taken.end,
-    }
+    let text = &line[..usize::from(s.held)];
+    s.held = 0;
+    take_line(&mut s.heads, &mut s.house, text, board, cells, heard, out)
 }
 
 // The end of the input right after the last weak line: the opening, and then the closing lines, if the room opened.
 fn open_and_end(
-    heads: Heads,
-    house: House,
+    heads: &mut Heads,
+    house: &mut House,
     board: &mut [u8],
     cells: &mut [u8],
     heard: &mut [u8],
     out: &mut [u8],
 ) -> usize
     requires { 8226 ≤ length out.old }
-    ensures wrote { Wrote out.old 0 (opens_and_ends (heads_of heads) (memory house board.old cells.old heard.old)) result out.new }
+    ensures wrote { Wrote out.old 0 (opens_and_ends (heads_of heads.old) (memory house.old board.old cells.old heard.old)) result out.new }
     ensures upper_bound { result ≤ 8226 }
 {
-    let start = page::open_room(heads, house, board, cells, heard);
-    let at = closing::answer_line(out, 0, start.number, 0);
-    let opened = start.heads;
-    if opened.due != 7 {
-        return at;
+    let number = page::open_room(heads, house, board, cells, heard);
+    let at = closing::answer_line(out, 0, number, 0);
+    match heads.due {
+        Due::Step => {
+            let m = Lent {
+                house,
+                board,
+                cells,
+                heard,
+            };
+            at + ending::write_ending(m, &mut out[at..])
+        }
+        _ => at,
     }
-    let kept = start.house;
-    let more = ending::write_ending(kept, board, cells, heard, &mut out[at..]);
-    at + more
 }
 
 // What the end of the input prints after the last line.
 fn end_sheet(
-    heads: Heads,
-    house: House,
+    heads: &mut Heads,
+    house: &mut House,
     board: &mut [u8],
     cells: &mut [u8],
     heard: &mut [u8],
     out: &mut [u8],
 ) -> usize
     requires { 8226 ≤ length out.old }
-    ensures wrote { Wrote out.old 0 (ends (sheet_of (heads_of heads) (memory house board.old cells.old heard.old))) result out.new }
+    ensures wrote { Wrote out.old 0 (ends (sheet_of (heads_of heads.old) (memory house.old board.old cells.old heard.old))) result out.new }
     ensures upper_bound { result ≤ 8226 }
 {
-    if heads.due == 8 {
-        return 0;
+    match heads.due {
+        Due::Nothing => 0,
+        Due::Step => {
+            let m = Lent {
+                house,
+                board,
+                cells,
+                heard,
+            };
+            ending::write_ending(m, out)
+        }
+        Due::Weaks => open_and_end(heads, house, board, cells, heard, out),
+        _ => closing::answer_line(out, 0, Refusal::Malformed as u8, 0),
     }
-    if heads.due == 7 {
-        return ending::write_ending(house, board, cells, heard, out);
-    }
-    if heads.due == 6 {
-        return open_and_end(heads, house, board, cells, heard, out);
-    }
-    closing::answer_line(out, 0, 19, 0)
 }
 
 // What the end of the input prints: the last line's answer, if it lacked its newline, and then the end of the sheet.
 pub fn finish(
-    s: Session,
+    mut s: Session,
     line: &[u8],
     board: &mut [u8],
     cells: &mut [u8],
@@ -304,16 +249,17 @@ pub fn finish(
     ensures wrote { Wrote out.old 0 (last_line (feed_for s line.now board.old cells.old heard.old)) result out.new }
     ensures upper_bound { result ≤ 8294 }
 {
-    let heads = s.heads;
-    let house = s.house;
     if s.held == 0 {
-        return end_sheet(heads, house, board, cells, heard, out);
+        return end_sheet(&mut s.heads, &mut s.house, board, cells, heard, out);
     }
-    let n = s.held as usize;
-    let taken = take_line(heads, house, &line[..n], board, cells, heard, out);
-    let heads = taken.heads;
-    let house = taken.house;
-    let at = taken.end;
-    let more = end_sheet(heads, house, board, cells, heard, &mut out[at..]);
-    at + more
+    let text = &line[..usize::from(s.held)];
+    let at = take_line(&mut s.heads, &mut s.house, text, board, cells, heard, out);
+    at + end_sheet(
+        &mut s.heads,
+        &mut s.house,
+        board,
+        cells,
+        heard,
+        &mut out[at..],
+    )
 }

@@ -1,7 +1,7 @@
 // Node sets as bytes, bit 0 for node 0: membership, one node more, the search for a full set, and how many nodes.
 #![tactic(auto)]
 
-ghost use Rattle.std.specs.Prelude.{◌≡◌, not, ◌&&◌, ◌≤◌, ◌<◌, take};
+ghost use Rattle.std.specs.Prelude.{◌≡◌, not, ◌&&◌, ◌≤◌, ◌<◌};
 ghost use Rattle.rules.specs.Tests.{any, all_in, bit};
 ghost use Rattle.sets.specs.Sets.{joined};
 
@@ -27,13 +27,12 @@ pub fn lacks(q: u8, have: u8, a: u8) -> bool
     in_set(q, a) && !in_set(have, a)
 }
 
-// Whether some listed set has all its nodes in have. Both loops are left at the first such set.
-pub fn some_full(list: [u8; 64], listed: u8, nodes: u8, have: u8) -> bool
-    requires listed_bound { listed ≤ 64 }
-    requires nodes_bound { nodes ≤ 8 }
-    ensures { result ≡ any (λ q. all_in nodes q (bit have)) (take listed list) }
+// Whether some set of the list has all its nodes in have. Both loops are left at the first such set.
+pub fn some_full(list: &[u8], nodes: u8, have: u8) -> bool
+    requires { nodes ≤ 8 }
+    ensures { result ≡ any (λ q. all_in nodes q (bit have)) list.now }
 {
-    'sets: for q in &list[..usize::from(listed)] {
+    'sets: for q in list {
         for a in 0..nodes {
             if lacks(*q, have, a) {
                 continue 'sets;

@@ -1,118 +1,88 @@
 // The sheet program: reads a sheet from standard input, byte by byte, and prints each answer and then the closing lines.
 #![tactic(auto)]
 
-ghost use Rattle.std.specs.Prelude.{◌≤◌, length};
-
 use session::Session;
 use std::io;
 use std::io::{Read, Write};
 
-// One byte; a line's answer is printed when its newline comes.
-fn take_one<W: Write>(
-    output: &mut W,
-    s: Session,
-    b: u8,
-    line: &mut [u8],
-    board: &mut [u8],
-    cells: &mut [u8],
-    heard: &mut [u8],
-    out: &mut [u8],
-) -> io::Result<Session>
-    requires in_bounds { 256 ≤ length line.old }
-    requires in_bounds_2 { 68 ≤ length out.old }
-{
-    let fed = session::take_byte(s, b, line, board, cells, heard, out);
-    output.write_all(&out[..fed.wrote])?;
-    Ok(fed.session)
+// A sheet that is being read: the session, the line in hand, the room's memory, and what is printed next.
+#[derive(Drop)]
+struct Desk {
+    session: Session,
+    line: [u8; 256],
+    board: [u8; 40960],
+    cells: [u8; 18432],
+    heard: [u8; 1024],
+    out: [u8; 16384],
 }
 
-// The bytes of one part of the input.
-fn take_part<W: Write>(
-    output: &mut W,
-    from: Session,
-    part: &[u8],
-    line: &mut [u8],
-    board: &mut [u8],
-    cells: &mut [u8],
-    heard: &mut [u8],
-    out: &mut [u8],
-) -> io::Result<Session>
-    requires part_len_bound { length part.now ≤ 4096 }
-    requires in_bounds { 256 ≤ length line.old }
-    requires in_bounds_2 { 68 ≤ length out.old }
-{
-    let mut s = from;
-    for b in part {
-        s = take_one(output, s, *b, line, board, cells, heard, out)?;
+impl Desk {
+    // One byte; a line's answer is printed when its newline comes.
+    fn take_one<W: Write>(&mut self, output: &mut W, b: u8) -> io::Result<()> {
+        let wrote = session::take_byte(
+            &mut self.session,
+            b,
+            &mut self.line,
+            &mut self.board,
+            &mut self.cells,
+            &mut self.heard,
+            &mut self.out,
+        );
+        output.write_all(&self.out[..wrote])
     }
-    Ok(s)
-}
 
-// The sheet after one reading; none where the input has ended.
-fn one_turn<R: Read, W: Write>(
-    input: &mut R,
-    output: &mut W,
-    s: Session,
-    line: &mut [u8],
-    board: &mut [u8],
-    cells: &mut [u8],
-    heard: &mut [u8],
-    out: &mut [u8],
-) -> io::Result<Option<Session>>
-    requires in_bounds { 256 ≤ length line.old }
-    requires in_bounds_2 { 68 ≤ length out.old }
-{
-    let mut part = [0u8; 4096];
-    let n = input.read(&mut part)?;
-    if n == 0 {
-        return Ok(None);
+    // The bytes of one part of the input.
+    fn take_part<W: Write>(&mut self, output: &mut W, part: &[u8]) -> io::Result<()> {
+        for b in part {
+            self.take_one(output, *b)?;
+        }
+        Ok(())
     }
-    let after = take_part(output, s, &part[..n], line, board, cells, heard, out)?;
-    Ok(Some(after))
-}
 
-// The whole input, part by part.
-fn read_all<R: Read, W: Write>(
-    input: &mut R,
-    output: &mut W,
-    line: &mut [u8],
-    board: &mut [u8],
-    cells: &mut [u8],
-    heard: &mut [u8],
-    out: &mut [u8],
-) -> io::Result<Session>
-    requires in_bounds { 256 ≤ length line.old }
-    requires in_bounds_2 { 68 ≤ length out.old }
-{
-    let mut s = session::begin();
-    // a loop with no bound would need the handle Wait, which no crate here has
-    for _ in 0..u64::MAX {
-        let Some(after) = one_turn(input, output, s, line, board, cells, heard, out)? else {
-            return Ok(s);
-        };
-        s = after;
+    // One reading, and whether the input had not ended.
+    fn one_turn<R: Read, W: Write>(&mut self, input: &mut R, output: &mut W) -> io::Result<bool> {
+        let mut part = [0; 4096];
+        let n = input.read(&mut part)?;
+        self.take_part(output, &part[..n])?;
+        Ok(n != 0)
     }
-    Ok(s)
+
+    // The whole input, part by part.
+    fn read_all<R: Read, W: Write>(&mut self, input: &mut R, output: &mut W) -> io::Result<()> {
+        // a loop with no bound would need the handle Wait, which no crate here has
+        for _ in 0..u64::MAX {
+            if !self.one_turn(input, output)? {
+                return Ok(());
+            }
+        }
+        Ok(())
+    }
+
+    // The end of the input.
+    fn finish<W: Write>(&mut self, output: &mut W) -> io::Result<()> {
+        let n = session::finish(
+            self.session,
+            &self.line,
+            &mut self.board,
+            &mut self.cells,
+            &mut self.heard,
+            &mut self.out,
+        );
+        output.write_all(&self.out[..n])
+    }
 }
 
 fn main(rt: HostRuntime) -> io::Result<()> {
     let mut input = rt.stdin();
     let mut output = rt.stdout();
-    let mut line = [0u8; 256];
-    let mut board = [0u8; 40960];
-    let mut cells = [0u8; 18432];
-    let mut heard = [0u8; 1024];
-    let mut out = [0u8; 16384];
-    let s = read_all(
-        &mut input,
-        &mut output,
-        &mut line,
-        &mut board,
-        &mut cells,
-        &mut heard,
-        &mut out,
-    )?;
-    let n = session::finish(s, &line, &mut board, &mut cells, &mut heard, &mut out);
-    output.write_all(&out[..n])?;
-    Ok(())
+    let mut desk = Desk {
+        session: session::begin(),
+        line: [0; 256],
+        board: [0; 40960],
+        cells: [0; 18432],
+        heard: [0; 1024],
+        out: [0; 16384],
+    };
+    desk.read_all(&mut input, &mut output)?;
+    desk.finish(&mut output)
 }

@@ -1,13 +1,14 @@
 // Counts and lengths of a room, and the form of a house record: its tables, intake and marks.
 #![tactic(auto)]
 
-ghost use Rattle.std.specs.Prelude.{◌≡◌, true, ◌&&◌, [], ℕ, ◌^◌, ◌≤◌, ◌<◌, leb, ltb, length, get_or, take};
+ghost use Rattle.std.specs.Prelude.{◌≡◌, true, ◌&&◌, [], ℕ, ◌^◌, ◌≤◌, ◌<◌, leb, ltb, length, get_or, IsTrue};
 ghost use Rattle.rules.specs.Tests.{all, distinct, fit, bit, count, first};
 ghost use Rattle.rules.specs.Words.{nodes_in, faulty_in, rows_in, capacity_in};
-ghost use Rattle.rules.specs.Lent.{memory, counts, tables, room_of, intake_of, same_scan, house_form};
+ghost use Rattle.rules.specs.Lent.{memory, counts, tables, room_of, intake_of, same_scan, house_form, Typed};
+ghost use Rattle.rules.specs.Replies.{number_in};
 ghost use Rattle.tables.specs.Tables.{lengths, passes, share, with_lists, new_scan};
 
-use rules::House;
+use rules::{House, Refusal};
 
 // ---- counts and lengths
 
@@ -27,8 +28,8 @@ pub fn sizes_in(nodes: u32, faulty: u32, rows: u32, capacity: u32) -> bool
 
 // All counts of the house record are in their limits.
 #[tactic(auto, unfolding(rules::specs::Lent::counts))]
-pub fn counts_ok(h: House) -> bool
-    ensures { result ≡ counts h }
+pub fn counts_ok(h: &House) -> bool
+    ensures { result ≡ counts h.now }
 {
     let sizes = sizes_in(
         h.nodes as u32,
@@ -88,48 +89,44 @@ pub fn set_passes(nodes: u8, faulty: u8, asked: Asked, set: u8) -> bool
     }
 }
 
-// The first n sets pass.
-pub fn all_pass(nodes: u8, faulty: u8, asked: Asked, sets: &[u8], n: usize) -> bool
-    requires nodes_bound { nodes ≤ 8 }
-    requires n_in_bounds { n ≤ length sets.now }
-    ensures { result ≡ all (passes nodes faulty asked) (take n sets.now) }
+// All sets of a list pass.
+pub fn all_pass(nodes: u8, faulty: u8, asked: Asked, sets: &[u8]) -> bool
+    requires { nodes ≤ 8 }
+    ensures { result ≡ all (passes nodes faulty asked) sets.now }
 {
-    sets[..n]
-        .iter()
+    sets.iter()
         .all(|set| set_passes(nodes, faulty, asked, *set))
 }
 
-// Each two of the first n sets, one with itself too, share more than f nodes.
-pub fn all_share(nodes: u8, faulty: u8, sets: &[u8], n: usize) -> bool
-    requires nodes_bound { nodes ≤ 8 }
-    requires n_in_bounds { n ≤ length sets.now }
-    ensures { result ≡ all (λ p. all (share nodes faulty p) (take n sets.now)) (take n sets.now) }
+// Each two sets of a list, one with itself too, share more than f nodes.
+pub fn all_share(nodes: u8, faulty: u8, sets: &[u8]) -> bool
+    requires { nodes ≤ 8 }
+    ensures { result ≡ all (λ p. all (share nodes faulty p) sets.now) sets.now }
 {
-    sets[..n]
-        .iter()
-        .all(|p| all_pass(nodes, faulty, Asked::Shares(*p), sets, n))
+    sets.iter()
+        .all(|p| all_pass(nodes, faulty, Asked::Shares(*p), sets))
 }
 
-// What opening says of a house record's tables: 2, 3, 4, or 0 if they pass.
+// What opening says of a house record's tables: 2, 3, 4, or nothing if they pass.
 #[tactic(auto, using(crate::proofs::Counted::counted))]
-pub fn tables_number(h: House) -> u8
-    requires { counts h ≡ true }
-    ensures { result ≡ first (tables (room_of h)) }
+pub fn test_tables(h: &House) -> Result<(), Refusal>
+    requires { counts h.now ≡ true }
+    ensures { number_in result ≡ first (tables (room_of h.now)) }
 {
-    let n = h.listed as usize;
-    let k = h.backers as usize;
-    if !all_pass(h.nodes, h.faulty, Asked::Present, &h.quorums, n)
-        || !all_pass(h.nodes, h.faulty, Asked::Present, &h.weaks, k)
+    let quorums = &h.quorums[..h.listed as usize];
+    let weaks = &h.weaks[..h.backers as usize];
+    if !all_pass(h.nodes, h.faulty, Asked::Present, quorums)
+        || !all_pass(h.nodes, h.faulty, Asked::Present, weaks)
     {
-        return 2;
+        return Err(Refusal::AbsentNode);
     }
-    if !all_share(h.nodes, h.faulty, &h.quorums, n) {
-        return 3;
+    if !all_share(h.nodes, h.faulty, quorums) {
+        return Err(Refusal::SmallOverlap);
     }
-    if !all_pass(h.nodes, h.faulty, Asked::Strong, &h.weaks, k) {
-        return 4;
+    if !all_pass(h.nodes, h.faulty, Asked::Strong, weaks) {
+        return Err(Refusal::SmallWeak);
     }
-    0
+    Ok(())
 }
 
 // ---- lists as opening is handed them
@@ -156,29 +153,29 @@ pub fn narrowed<const N: usize>(sets: &[u32]) -> [u8; N]
     out
 }
 
-// What opening says of the tables of a room: 2, 3, 4, or 0 if they pass.
-pub fn lists_number(nodes: u8, faulty: u8, quorums: &[u32], weaks: &[u32]) -> u8
+// What opening says of the tables of a room: 2, 3, 4, or nothing if they pass.
+pub fn test_lists(nodes: u8, faulty: u8, quorums: &[u32], weaks: &[u32]) -> Result<(), Refusal>
     requires nodes_bound { nodes ≤ 8 }
     requires quorums_len_bound { (length quorums.now ≤ 64) × (length weaks.now ≤ 64) }
-    ensures { result ≡ first (tables (with_lists nodes faulty quorums.now weaks.now)) }
+    ensures { number_in result ≡ first (tables (with_lists nodes faulty quorums.now weaks.now)) }
 {
     if !sets_present(nodes, quorums) || !sets_present(nodes, weaks) {
-        return 2;
+        return Err(Refusal::AbsentNode);
     }
     let q: [u8; 64] = narrowed(quorums);
     let w: [u8; 64] = narrowed(weaks);
-    if !all_share(nodes, faulty, &q, quorums.len()) {
-        return 3;
+    if !all_share(nodes, faulty, &q[..quorums.len()]) {
+        return Err(Refusal::SmallOverlap);
     }
-    if !all_pass(nodes, faulty, Asked::Strong, &w, weaks.len()) {
-        return 4;
+    if !all_pass(nodes, faulty, Asked::Strong, &w[..weaks.len()]) {
+        return Err(Refusal::SmallWeak);
     }
-    0
+    Ok(())
 }
 
 // ---- intake
 
-// The scan numbered k is none of those before it.
+// The scan numbered k is none of those before it. The number is a place in the lists, not their length.
 pub fn scan_new(stations: &[u8], serials: &[u32], k: usize) -> bool
     requires k_in_bounds { k < length stations.now }
     requires k_in_bounds_2 { k < length serials.now }
@@ -187,22 +184,23 @@ pub fn scan_new(stations: &[u8], serials: &[u32], k: usize) -> bool
     (0..k).all(|j| (stations[j] != stations[k]) | (serials[j] != serials[k]))
 }
 
-// The first n scans differ from one another.
-pub fn scans_differ(stations: &[u8], serials: &[u32], n: usize) -> bool
-    requires n_in_bounds { n ≤ length stations.now }
-    requires n_in_bounds_2 { n ≤ length serials.now }
-    ensures { result ≡ distinct same_scan (intake_of stations.now serials.now n) }
+// The scans of a list differ from one another: each station has a serial beside it.
+pub fn scans_differ(stations: &[u8], serials: &[u32]) -> bool
+    requires { length stations.now ≤ length serials.now }
+    ensures { result ≡ distinct same_scan (intake_of stations.now serials.now (length stations.now)) }
 {
-    (0..n).all(|k| scan_new(stations, serials, k))
+    (0..stations.len()).all(|k| scan_new(stations, serials, k))
 }
 
 // The tables pass opening, intake scans differ from one another, marks name only existing nodes.
-#[tactic(auto, using(crate::proofs::Counted::counted, crate::proofs::Counted::house_are))]
-pub fn house_ok(h: House) -> bool
-    requires { counts h ≡ true }
-    ensures { result ≡ house_form (memory h [] [] []) }
+#[tactic(auto, using(crate::proofs::Counted::counted, crate::proofs::Counted::house_are, rules::proofs::Named::positive, rules::proofs::Each::intake_front))]
+pub fn house_ok(h: &House) -> bool
+    requires { counts h.now ≡ true }
+    ensures value { result ≡ house_form (memory h.now [] [] []) }
+    ensures typed { IsTrue result → Typed h.now }
 {
-    tables_number(h) == 0
-        && scans_differ(&h.stations, &h.serials, h.tubes as usize)
+    let n = h.tubes as usize;
+    test_tables(h).is_ok()
+        && scans_differ(&h.stations[..n], &h.serials[..n])
         && (h.marks as u16) < (1u16 << h.nodes)
 }

@@ -8,9 +8,9 @@ ghost use Rattle.tell.specs.Lines.{Reached, line_of, lines, Left, Written};
 use crate::{Figures, RowTube, Rows};
 
 // The book's rows, from row 1 to just before the first that is not agreed.
-pub fn book_rows(h: rules::House, board: &[u8]) -> Rows
-    requires { Countable h board.now }
-    ensures { Seen h board.now (λ ρ s. Reached ρ s result) }
+pub fn book_rows(h: &rules::House, board: &[u8]) -> Rows
+    requires { Countable h.now board.now }
+    ensures { Seen h.now board.now (λ ρ s. Reached ρ s result) }
 {
     let mut tubes = [0; 64];
     for k in 0..h.rows {
@@ -80,10 +80,10 @@ fn write_waiting(rows: &[u8], last: u8, out: &mut [u8]) -> u8
 }
 
 // The book into one lent area and the waiting tubes into the other.
-pub fn write_book(h: rules::House, board: &[u8], rows: &mut [u8], waiting: &mut [u8]) -> Figures
-    requires countable { Countable h board.now }
-    requires rows_in_bounds { (h.rows ≤ length rows.old) × (64 ≤ length waiting.old) }
-    ensures { Seen h board.now (λ ρ s. Written ρ s rows.old waiting.old rows.new waiting.new result) }
+pub fn write_book(h: &rules::House, board: &[u8], rows: &mut [u8], waiting: &mut [u8]) -> Figures
+    requires countable { Countable h.now board.now }
+    requires rows_in_bounds { (h.now.rows ≤ length rows.old) × (64 ≤ length waiting.old) }
+    ensures { Seen h.now board.now (λ ρ s. Written ρ s rows.old waiting.old rows.new waiting.new result) }
 {
     let b = book_rows(h, board);
     let tubes = &b.tubes[..b.reach as usize];

@@ -1,5 +1,5 @@
 // What a row came to: its votes in one pass over the board, and the tubes that a quorum voted.
-ghost use Rattle.std.specs.Prelude.{◌≡◌, false, ◌≤◌, take};
+ghost use Rattle.std.specs.Prelude.{◌≡◌, false, ◌≤◌};
 ghost use Rattle.std.specs.List.{list_any};
 ghost use Rattle.rules.specs.Lent.{msg_at, board_of};
 ghost use Rattle.rules.specs.Book.{outcome};
@@ -10,13 +10,11 @@ use crate::RowTube;
 
 // The listed quorums of a room and how many nodes it has; no votes fill one.
 #[derive(Clone, Copy)]
-struct Quorums {
-    list: [u8; 64],
-    listed: u8,
+struct Quorums<'a> {
+    list: &'a [u8],
     nodes: u8,
-    ghost few: { listed ≤ 64 },
     ghost room: { nodes ≤ 8 },
-    ghost peopled: { filled nodes (take listed list) 0 ≡ false },
+    ghost peopled: { filled nodes list.now 0 ≡ false },
 }
 
 // The vote of a node for a tube in a ballot.
@@ -46,9 +44,9 @@ fn add_vote(votes: &mut [u8; 1024], board: &[u8], k: usize, row: u8)
 
 // The votes of a row, in one pass over the board: one flat array, whose places the clause `Counted` names, in fixed memory.
 #[tactic(auto, using(crate::proofs::Votes::within))]
-pub fn row_votes(h: rules::House, board: &[u8], row: u8) -> [u8; 1024]
-    requires { Countable h board.now }
-    ensures { Counted (board_of board.now h.count) row result }
+pub fn row_votes(h: &rules::House, board: &[u8], row: u8) -> [u8; 1024]
+    requires { Countable h.now board.now }
+    ensures { Counted (board_of board.now h.now.count) row result }
 {
     let mut votes = [0; 1024];
     for k in 0..h.count as usize {
@@ -69,17 +67,17 @@ fn no_votes(votes: &[u8; 1024], at: usize) -> bool
     sum == 0
 }
 
-impl Quorums {
+impl Quorums<'_> {
     // Whether some quorum is full of these votes; no votes fill none.
     fn full_of(&self, have: u8) -> bool
-        ensures { result ≡ filled self.now.nodes (take self.now.listed self.now.list) have }
+        ensures { result ≡ filled self.now.nodes self.now.list.now have }
     {
-        have != 0 && sets::some_full(self.list, self.listed, self.nodes, have)
+        have != 0 && sets::some_full(self.list, self.nodes, have)
     }
 
     // Whether some quorum is full of one of these sets of votes.
     fn fills(&self, ballots: &[u8]) -> bool
-        ensures { result ≡ list_any (filled self.now.nodes (take self.now.listed self.now.list)) ballots.now }
+        ensures { result ≡ list_any (filled self.now.nodes self.now.list.now) ballots.now }
     {
         ballots.iter().any(|have| self.full_of(*have))
     }
@@ -87,7 +85,7 @@ impl Quorums {
     // Whether some quorum is full of a tube's votes in one ballot.
     fn carry(&self, votes: &[u8; 1024], tube: u8) -> bool
         requires { (1 ≤ tube) × (tube ≤ 64) }
-        ensures { result ≡ carried self.now.nodes (take self.now.listed self.now.list) votes.now tube }
+        ensures { result ≡ carried self.now.nodes self.now.list.now votes.now tube }
     {
         let at = 16 * (tube as usize - 1);
         !no_votes(votes, at) && self.fills(&votes[at..at + 16])
@@ -96,7 +94,7 @@ impl Quorums {
     // The next chosen tube from this one on.
     fn next_chosen(&self, votes: &[u8; 1024], start: u8) -> Option<u8>
         requires { (1 ≤ start) × (start ≤ 65) }
-        ensures { Next (carried self.now.nodes (take self.now.listed self.now.list) votes.now) start result }
+        ensures { Next (carried self.now.nodes self.now.list.now votes.now) start result }
     {
         for v in start..65 {
             if self.carry(votes, v) {
@@ -108,15 +106,13 @@ impl Quorums {
 }
 
 // What a row came to.
-pub fn row_outcome(h: rules::House, board: &[u8], row: u8) -> RowTube
-    requires { Countable h board.now }
-    ensures { Seen h board.now (λ ρ s. outcome_of result ≡ outcome ρ s row) }
+pub fn row_outcome(h: &rules::House, board: &[u8], row: u8) -> RowTube
+    requires { Countable h.now board.now }
+    ensures { Seen h.now board.now (λ ρ s. outcome_of result ≡ outcome ρ s row) }
 {
     let votes = row_votes(h, board, row);
-    let list = h.quorums; // a copy first: the check takes no array field straight into a literal
     let quorums = Quorums {
-        list,
-        listed: h.listed,
+        list: &h.quorums[..usize::from(h.listed)],
         nodes: h.nodes,
     };
     let Some(v) = quorums.next_chosen(&votes, 1) else {

@@ -1,3 +1,4 @@
 pub mod Seat
 pub mod Acts
 pub mod Says
+pub mod Exits

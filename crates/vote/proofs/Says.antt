@@ -38,6 +38,23 @@ went_on true true false k e = absurd (omega arith)
 went_on true false c k e = absurd (omega arith)
 went_on false b c k e = absurd (omega arith)
 
+-- a vote's numbers, narrowed, say what the given ones do
+module _ (m : Memory) {r n b v row node ballot tube : ℕ} (e : (n ≡ node) × ((r ≡ row) × (b ≡ ballot) × (v ≡ tube))) where
+  pub same_begun : begun m r n b v ≡ begun m row node ballot tube
+  same_begun = λ i. begun m (e.1.0 i) (e.0 i) (e.1.1 i) (e.1.2 i)
+
+  pub same_2av : verdict m (c2av r n b v) ≡ verdict m (c2av row node ballot tube)
+  same_2av = λ i. verdict m (c2av (e.1.0 i) (e.0 i) (e.1.1 i) (e.1.2 i))
+
+  pub same_2b : verdict m (c2b r n b v) ≡ verdict m (c2b row node ballot tube)
+  same_2b = λ i. verdict m (c2b (e.1.0 i) (e.0 i) (e.1.1 i) (e.1.2 i))
+
+  pub same_six : limits (room_of m.house) (m2av r b n v) ≡ limits (room_of m.house) (m2av row ballot node tube)
+  same_six = λ i. limits (room_of m.house) (m2av (e.1.0 i) (e.1.1 i) (e.0 i) (e.1.2 i))
+
+  pub same_seven : leb v m.house.tubes ≡ leb tube m.house.tubes
+  same_seven = λ i. leb (e.1.2 i) m.house.tubes
+
 module _ (m : Memory) (r n b v : ℕ) where
   abbrev ρ : Room
   ρ = room_of m.house

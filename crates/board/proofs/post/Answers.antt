@@ -8,14 +8,14 @@ use Rattle.board.proofs.post.Goals as goal
 pub returns-then-on_board : goal.returns-then-on_board
 returns-then-on_board c x y =
     let a = c.args in
-    let n : c.from-n.result ≡ a.h.count = search rules in
+    let n : c.from-n.result ≡ a.house.now.count = search rules in
     let h = sym c.on_board.ensures ∙ c.if-on_board.true in
-    post_old (memory a.h a.board.now x y) (meaning a.m) (rw n at h)
+    post_old (memory a.house.now a.board.now x y) (meaning a.m) (rw n at h)
 
 pub returns : goal.returns
 returns c x y =
     let a = c.args in
-    let n : c.from-n.result ≡ a.h.count = search rules in
+    let n : c.from-n.result ≡ a.house.now.count = search rules in
     let h = sym c.on_board.ensures ∙ c.if-on_board.false in
-    let p = rw n at c.append.ensures ∙ ap (λ (t : Message). patch a.board.now (40 * a.h.count) (bytes_of t)) (sym c.requires.own) in
-    (λ i. memory (raised a.h (add-one a.h.count i)) (p i) x y) ∙ post_new (memory a.h a.board.now x y) (meaning a.m) (rw n at h)
+    let p = rw n at c.append.ensures ∙ ap (λ (t : Message). patch a.board.now (40 * a.house.now.count) (bytes_of t)) (sym c.requires.own) in
+    (λ i. memory ((c.raise.ensures ∙ ap (raised a.house.now) (add-one a.house.now.count)) i) (p i) x y) ∙ post_new (memory a.house.now a.board.now x y) (meaning a.m) (rw n at h)

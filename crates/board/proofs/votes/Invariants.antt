@@ -6,4 +6,4 @@ use Rattle.board.specs.Asked.{is_vote}
 use Rattle.board.proofs.votes.Given as goal
 
 abbrev pub invariant-loop-i : goal.invariant-loop-i
-invariant-loop-i l = Gathered l.set (λ a. any (is_vote l.kind l.row.0 l.ballot.0 l.tube.0 a) (board_of l.board l.i))
+invariant-loop-i l = Gathered l.set (λ a. any (is_vote l.kind l.bid.row.0 l.bid.ballot.0 l.bid.tube.0 a) (board_of l.board l.i))

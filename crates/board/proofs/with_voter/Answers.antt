@@ -9,12 +9,12 @@ use Rattle.board.proofs.with_voter.Goals as goal
 pub returns-then-is_vote : goal.returns-then-is_vote
 returns-then-is_vote c n h =
     let a = c.args in
-    let v = vote_node a.m a.kind a.row.0 a.ballot.0 a.tube.0 n c.requires in
+    let v = vote_node a.m a.kind a.bid.row.0 a.bid.ballot.0 a.bid.tube.0 n c.requires in
     let j = joined-bit a.set a.m.node n h in
     grind (arith, common_steps)
 
 pub returns-else-is_vote : goal.returns-else-is_vote
 returns-else-is_vote c n h =
     let a = c.args in
-    let v = vote_node a.m a.kind a.row.0 a.ballot.0 a.tube.0 n c.requires in
+    let v = vote_node a.m a.kind a.bid.row.0 a.bid.ballot.0 a.bid.tube.0 n c.requires in
     grind (arith, common_steps, or_no)

@@ -1,61 +1,38 @@
--- The gate's number is written as an answer, and past the gate the book's rows and the intake as the closing lines.
-use mathlib.Core.Path.{◌≡◌, sym, ◌∙◌}
-use native.Mathlib.Nat.{zero-add}
-use native.Mathlib.Omega.{arith}
-use lib.ListN.{length}
-use Rattle.rules.specs.Tests.{first}
-use Rattle.rules.specs.Lent.{Memory, memory, room_of, read}
+-- The gate's refusal is written as an answer, and past the gate the book's rows and the intake as the closing lines.
+use Rattle.std.proofs.Common.{sym, ◌∙◌, arith, zero-add, length}
+use Rattle.rules.specs.Lent.{lent, room_of, read}
 use Rattle.rules.specs.Steps.{ask}
-use Rattle.rules.specs.Replies.{gate}
+use Rattle.rules.proofs.Named.{positive}
 use Rattle.tell.proofs.Past.{past_countable}
-use Rattle.closing.specs.Given.{Given}
 use Rattle.closing.specs.Printed.{answer_text}
 use Rattle.ending.proofs.Ending.{closes_with, refused, let_through, given_rows}
 use Rattle.ending.proofs.write_ending.Goals as goal
 
-pub returns-then-found-ne0 : goal.returns-then-found-ne0
-returns-then-found-ne0 c =
-    let lent : Memory =
-    let a = c.args in memory a.house a.board.now a.cells.now a.heard.now in
+pub returns-in-Err : goal.returns-in-Err
+returns-in-Err c =
+    let m = lent c.args.m in
     let line = c.answer_line in
-    let k = c.gate-found.result in
-    let parts = closes_with lent c.args.out.now (refused lent k c.gate-found.ensures c.if-found-ne0.true)
-    (line.ensures.wrote.ends ∙ zero-add (length (answer_text k 0))) line.ensures.wrote.area (omega (arith, line.ensures.upper_bound)) in record { value = parts.0; out_after = parts.1.0; upper_bound = parts.1.1 }
+    let e = c.into.ensures ∙ c.in-Err.ensures.number in
+    let parts = closes_with m c.args.out.now (refused m c.into.result e (λ z. positive c.in-Err.refusal (sym c.into.ensures ∙ z)))
+    (line.ensures.wrote.ends ∙ zero-add (length (answer_text c.into.result 0))) line.ensures.wrote.area (omega (arith, line.ensures.upper_bound)) in
+    record { value = parts.0; out_after = parts.1.0; upper_bound = parts.1.1 }
 
 pub book_rows-b-requires : goal.book_rows-b-requires
-book_rows-b-requires c =
-    let lent : Memory =
-    let a = c.args in memory a.house a.board.now a.cells.now a.heard.now in
-    let gated : first (gate lent (ask 0)) ≡ 0 =
-    sym c.gate-found.ensures ∙ c.if-found-ne0.false in
-    past_countable lent (ask 0) gated
+book_rows-b-requires c = past_countable (lent c.args.m) (ask 0) (sym c.in_default.ensures.number)
 
 pub write_closing-requires : goal.write_closing-requires
 write_closing-requires c =
-    let lent : Memory =
-    let a = c.args in memory a.house a.board.now a.cells.now a.heard.now in
-    let gated : first (gate lent (ask 0)) ≡ 0 =
-    sym c.gate-found.ensures ∙ c.if-found-ne0.false in
-    let rows : let m = lent in let b = c.book_rows-b.result in
-    Given (room_of m.house) (read m) b.tubes b.reach c.by_split-split.result m.house.stations m.house.serials m.house.tubes =
+    let m = lent c.args.m in
     let b = c.book_rows-b in
-    let m = lent in
-    given_rows m gated b.result c.by_split-split.result (b.ensures m.cells m.heard) c.by_split-split.ensures in
-    let m = lent in
-    record { known = (room_of m.house, read m, rows); in_bounds = omega (arith, c.requires) }
+    let rows = given_rows m (sym c.in_default.ensures.number) b.result c.by_split.result (b.ensures m.cells m.heard) c.by_split.ensures in
+    record { known = (room_of m.house, read m, rows); in_bounds = c.requires }
 
 pub returns : goal.returns
 returns c =
-    let lent : Memory =
-    let a = c.args in memory a.house a.board.now a.cells.now a.heard.now in
-    let gated : first (gate lent (ask 0)) ≡ 0 =
-    sym c.gate-found.ensures ∙ c.if-found-ne0.false in
-    let rows : let m = lent in let b = c.book_rows-b.result in
-    Given (room_of m.house) (read m) b.tubes b.reach c.by_split-split.result m.house.stations m.house.serials m.house.tubes =
+    let m = lent c.args.m in
     let b = c.book_rows-b in
-    let m = lent in
-    given_rows m gated b.result c.by_split-split.result (b.ensures m.cells m.heard) c.by_split-split.ensures in
-    let closing = c.write_closing in
-    let m = lent in
-    let w = closing.ensures.value (room_of m.house) (read m) rows in
-    let parts = closes_with m c.args.out.now (let_through m gated) w.0 w.1 closing.ensures.upper_bound in record { value = parts.0; out_after = parts.1.0; upper_bound = parts.1.1 }
+    let gated = sym c.in_default.ensures.number in
+    let rows = given_rows m gated b.result c.by_split.result (b.ensures m.cells m.heard) c.by_split.ensures in
+    let w = c.write_closing.ensures.value (room_of m.house) (read m) rows in
+    let parts = closes_with m c.args.out.now (let_through m gated) w.0 w.1 c.write_closing.ensures.upper_bound in
+    record { value = parts.0; out_after = parts.1.0; upper_bound = parts.1.1 }

@@ -1,90 +1,45 @@
 -- A foreign post: its fields within limits, its tubes on intake, and room for it.
-use mathlib.Core.Path.{◌≡◌, refl, sym, ◌∙◌}
-use mathlib.Core.Bool.{true, false}
-use Rattle.rules.specs.Lent.{Memory, memory, room_of, read, scanned}
-use Rattle.rules.specs.Steps.{Post, fits, posted}
-use Rattle.rules.specs.Replies.{post_in}
-use Rattle.rules.proofs.Codec.{Small}
-use Rattle.board.proofs.Bytes.{own-stored}
+use Rattle.std.proofs.Common.{true, false, refl, sym, ◌∙◌}
+use Rattle.rules.specs.Lent.{lent}
 use Rattle.judge.proofs.Past.{plain, fits_means}
 use Rattle.step.specs.Given.{post_of}
-use Rattle.foreign.proofs.Posts.{true_holds, says_foreign, small_post}
+use Rattle.foreign.proofs.Posts.{says_foreign, small, own, few, tubes_means}
 use Rattle.foreign.proofs.judge_foreign.Goals as goal
 
-pub returns-then-not-fields_in : goal.returns-then-not-fields_in
-returns-then-not-fields_in c =
-    let lent : Memory =
-    let a = c.args in memory a.h a.board.now a.cells.now a.heard.now in
-    let given : Post =
-    post_of c.args.post c.args.pairs in
-    says_foreign lent given false _ _ (sym c.fields_in.ensures ∙ c.if-not-fields_in.true) refl refl
+pub returns-in_default-clause-number : goal.returns-in_default-clause-number
+returns-in_default-clause-number c = says_foreign (lent c.args.m) (post_of c.args.post c.args.pairs) false _ _ c.in_default.ensures refl refl
 
-pub tubes_in-requires : goal.tubes_in-requires
-tubes_in-requires c =
-    let given : Post =
-    post_of c.args.post c.args.pairs in
-    let inside : post_in (room_of c.args.h) given ≡ true =
-    sym c.fields_in.ensures ∙ c.if-not-fields_in.false in
-    true_holds _ inside
+pub tubes_scanned-requires-clause-own : goal.tubes_scanned-requires-clause-own
+tubes_scanned-requires-clause-own c = own (lent c.args.m) (post_of c.args.post c.args.pairs) c.in-Some.ensures
 
-pub returns-then-not-tubes_in : goal.returns-then-not-tubes_in
-returns-then-not-tubes_in c =
-    let lent : Memory =
-    let a = c.args in memory a.h a.board.now a.cells.now a.heard.now in
-    let given : Post =
-    post_of c.args.post c.args.pairs in
-    let inside : post_in (room_of c.args.h) given ≡ true =
-    sym c.fields_in.ensures ∙ c.if-not-fields_in.false in
-    says_foreign lent given true false _ inside (sym c.tubes_in.ensures ∙ c.if-not-tubes_in.true) refl
+pub tubes_scanned-requires-clause-count : goal.tubes_scanned-requires-clause-count
+tubes_scanned-requires-clause-count c = few (lent c.args.m) (post_of c.args.post c.args.pairs) c.in-Some.ensures
 
-pub message-m-requires : goal.message-m-requires
-message-m-requires c =
-    let given : Post =
-    post_of c.args.post c.args.pairs in
-    let inside : post_in (room_of c.args.h) given ≡ true =
-    sym c.fields_in.ensures ∙ c.if-not-fields_in.false in
-    true_holds _ inside
+pub returns-then-not-tubes_scanned-clause-number : goal.returns-then-not-tubes_scanned-clause-number
+returns-then-not-tubes_scanned-clause-number c =
+    let m = lent c.args.m in
+    let p = post_of c.args.post c.args.pairs in
+    let e = c.in-Some.ensures in
+    says_foreign m p true false _ e.0 (tubes_means m p e c.tubes_scanned.ensures ∙ c.if-not-tubes_scanned.true) refl
 
-pub fits-requires : goal.fits-requires
-fits-requires c =
-    let lent : Memory =
-    let a = c.args in memory a.h a.board.now a.cells.now a.heard.now in
-    let given : Post =
-    post_of c.args.post c.args.pairs in
-    let inside : post_in (room_of c.args.h) given ≡ true =
-    sym c.fields_in.ensures ∙ c.if-not-fields_in.false in
-    let small : Small (posted given) =
-    small_post (room_of c.args.h) given (true_holds _ inside) in
-    record { plain = plain lent c.requires; own = own-stored (posted given) _ small c.message-m.ensures }
+pub fits-requires-clause-plain : goal.fits-requires-clause-plain
+fits-requires-clause-plain c = plain (lent c.args.m) c.requires
 
-pub returns-then-not-fits : goal.returns-then-not-fits
-returns-then-not-fits c =
-    let lent : Memory =
-    let a = c.args in memory a.h a.board.now a.cells.now a.heard.now in
-    let given : Post =
-    post_of c.args.post c.args.pairs in
-    let inside : post_in (room_of c.args.h) given ≡ true =
-    sym c.fields_in.ensures ∙ c.if-not-fields_in.false in
-    let known : scanned c.args.h.tubes (posted given) ≡ true =
-    sym c.tubes_in.ensures ∙ c.if-not-tubes_in.false in
-    let small : Small (posted given) =
-    small_post (room_of c.args.h) given (true_holds _ inside) in
-    let room : c.fits.result ≡ fits (room_of c.args.h) (read lent) (posted given) =
-    fits_means lent (posted given) _ small c.message-m.ensures c.fits.ensures in
-    says_foreign lent given true true false inside known (sym room ∙ c.if-not-fits.true)
+pub fits-requires-clause-own : goal.fits-requires-clause-own
+fits-requires-clause-own c = own (lent c.args.m) (post_of c.args.post c.args.pairs) c.in-Some.ensures
 
-pub returns : goal.returns
-returns c =
-    let lent : Memory =
-    let a = c.args in memory a.h a.board.now a.cells.now a.heard.now in
-    let given : Post =
-    post_of c.args.post c.args.pairs in
-    let inside : post_in (room_of c.args.h) given ≡ true =
-    sym c.fields_in.ensures ∙ c.if-not-fields_in.false in
-    let known : scanned c.args.h.tubes (posted given) ≡ true =
-    sym c.tubes_in.ensures ∙ c.if-not-tubes_in.false in
-    let small : Small (posted given) =
-    small_post (room_of c.args.h) given (true_holds _ inside) in
-    let room : c.fits.result ≡ fits (room_of c.args.h) (read lent) (posted given) =
-    fits_means lent (posted given) _ small c.message-m.ensures c.fits.ensures in
-    says_foreign lent given true true true inside known (sym room ∙ c.if-not-fits.false)
+pub returns-then-not-fits-clause-number : goal.returns-then-not-fits-clause-number
+returns-then-not-fits-clause-number c =
+    let m = lent c.args.m in
+    let p = post_of c.args.post c.args.pairs in
+    let e = c.in-Some.ensures in
+    says_foreign m p true true false e.0 (tubes_means m p e c.tubes_scanned.ensures ∙ c.if-not-tubes_scanned.false)
+    (sym (fits_means m _ _ (small m p e) e.1 c.fits.ensures) ∙ c.if-not-fits.true)
+
+pub returns-clause-number : goal.returns-clause-number
+returns-clause-number c =
+    let m = lent c.args.m in
+    let p = post_of c.args.post c.args.pairs in
+    let e = c.in-Some.ensures in
+    says_foreign m p true true true e.0 (tubes_means m p e c.tubes_scanned.ensures ∙ c.if-not-tubes_scanned.false)
+    (sym (fits_means m _ _ (small m p e) e.1 c.fits.ensures) ∙ c.if-not-fits.false)

@@ -1,6 +1,6 @@
 -- The node's bit is set beside the others.
 use borrow.Author.Rules.{rules}
-use Rattle.write.proofs.Bits.{own-bit}
+use Rattle.house.proofs.Bits.{own-bit}
 use Rattle.house.proofs.with_node.Goals as goal
 
 pub returns : goal.returns

@@ -1,25 +1,13 @@
--- The search for a scan: none of those passed over is it.
-use Rattle.std.proofs.Common.{◌≡◌, suc, sym, ap, ◌∙◌, add-one, arith}
-use Rattle.rules.specs.Lent.{intake_of}
-use Rattle.rules.proofs.Codec.{length-scans}
-use Rattle.intake.proofs.Scans.{scanned-more, tube_new, tube_here}
+-- The first scan that is it, or none.
+use borrow.Author.Rules.{rules}
+use borrow.Author.Tests.{tests}
+use Rattle.std.proofs.lemmas.Iterator.{YieldsList-from_slice, YieldsList-from_zip}
+use Rattle.std.proofs.lemmas.Iterator.Search.{position_from_yields_List}
+use Rattle.intake.proofs.Scans.{is, tube_at}
 use Rattle.intake.proofs.tube_for.Goals as goal
-
-pub returns-then-is_scan : goal.returns-then-is_scan
-returns-then-is_scan c =
-    let l = c.loop-i in
-    let a = c.args in
-    add-one l.i ∙ sym (tube_here a.stations.now a.serials.now l.i a.n a.station a.serial (omega arith) l.invariant (sym c.is_scan.ensures ∙ c.if-is_scan.true))
-
-pub loop-i-preserved : goal.loop-i-preserved
-loop-i-preserved c =
-    let l = c.loop-i in
-    let a = c.args in
-    scanned-more a.stations.now a.serials.now l.i a.station a.serial l.invariant (sym c.is_scan.ensures ∙ c.if-is_scan.false)
 
 pub returns : goal.returns
 returns c =
-    let l = c.loop-i in
     let a = c.args in
-    let e : l.i ≡ a.n = omega arith in
-    add-one a.n ∙ sym (tube_new (intake_of a.stations.now a.serials.now a.n) a.station a.serial (rw e at l.invariant) ∙ ap suc (length-scans a.stations.now a.serials.now a.n))
+    let e = position_from_yields_List (is a.station a.serial) c.position-met.new.self _ _ c.position-met.ensures.ran (YieldsList-from_zip (YieldsList-from_slice a.stations.now cc) (YieldsList-from_slice a.serials.now cc)) (λ x b q k. search (rules, tests)) in
+    rw c.unwrap_or.ensures (tube_at a.stations.now a.serials.now a.station a.serial c.position-met.result c.requires e)

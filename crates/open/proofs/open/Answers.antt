@@ -1,75 +1,57 @@
 -- Refused: nothing is written. Done: cells, heard bits and the house record as opening leaves them.
-use mathlib.Core.Path.{◌≡◌}
-use native.Mathlib.Omega.{arith}
-use Rattle.rules.specs.Words.{Room}
+use Rattle.std.proofs.Common.{◌≡◌, refl, sym, ◌∙◌, arith}
+use Rattle.std.proofs.lemmas.Result.{err_from_is_err_and}
 use Rattle.rules.specs.Lent.{Memory, memory}
 use Rattle.rules.specs.Replies.{open_reply}
-use Rattle.open.specs.Room.{room}
-use Rattle.open.proofs.Opened.{at_most, refused, Passed, passed, done}
+use Rattle.rules.specs.declared.House.{House}
+use Rattle.rules.proofs.Named.{positive}
+use Rattle.open.specs.declared.Plan.{Plan}
+use Rattle.open.specs.Room.{planned}
+use Rattle.open.proofs.Opened.{Passed, refused, passed, done}
 use Rattle.open.proofs.open.Goals as goal
 
-pub named-requires : goal.named-requires
-named-requires c =
-    let a = c.args in
-    let ρ : Room = room a.nodes a.faulty a.rows a.capacity a.quorums.now a.weaks.now in
-    let m : Memory = memory a.house a.board.now a.cells.now a.heard.now in
-    let e : c.judge_open-k.result ≡ open_reply ρ m = c.judge_open-k.ensures m.house in
-    let l = at_most ρ m in
-    record { le_k = omega arith; k_bound = omega arith }
+-- what the tests tell where none failed, whatever house record stood there
+told : (p : Plan) (m : Memory) → ((h : House) → 0 ≡ open_reply (planned p) (memory h m.board m.cells m.heard)) → Passed (planned p) m
+told p m e = passed (planned p) m (sym (e m.house))
 
-pub returns-then-k-ne0 : goal.returns-then-k-ne0
-returns-then-k-ne0 c =
+pub returns-in_err-judge_open : goal.returns-in_err-judge_open
+returns-in_err-judge_open c =
     let a = c.args in
-    let ρ : Room = room a.nodes a.faulty a.rows a.capacity a.quorums.now a.weaks.now in
-    let m : Memory = memory a.house a.board.now a.cells.now a.heard.now in
-    let e : c.judge_open-k.result ≡ open_reply ρ m = c.judge_open-k.ensures m.house in
-    refused ρ m c.judge_open-k.result _ e (λ z. omega arith) c.named.ensures
+    let m : Memory = memory a.house.now a.board.now a.cells.now a.heard.now in
+    let p = err_from_is_err_and c.from_residual.result c.from_residual.ensures.1 in
+    let e = c.in_err-judge_open.ensures m.house in
+    rw (p.1, p.2) (refused (planned a.plan) m _ _ e (λ z. positive _ (e ∙ z)) refl)
 
-pub overflow_mul-nodes : goal.overflow_mul-nodes
-overflow_mul-nodes c =
+pub overflow_mul-plan : goal.overflow_mul-plan
+overflow_mul-plan c =
     let a = c.args in
-    let ρ : Room = room a.nodes a.faulty a.rows a.capacity a.quorums.now a.weaks.now in
-    let m : Memory = memory a.house a.board.now a.cells.now a.heard.now in
-    let e : c.judge_open-k.result ≡ open_reply ρ m = c.judge_open-k.ensures m.house in
-    let none : open_reply ρ m ≡ 0 = omega arith in
-    let told : Passed ρ m = passed ρ m none in
-    let z = told.places in omega arith
+    let m : Memory = memory a.house.now a.board.now a.cells.now a.heard.now in
+    let t = told a.plan m c.in_ok-judge_open.ensures in
+    let z = t.places in omega arith
 
 pub fresh_cells-requires : goal.fresh_cells-requires
 fresh_cells-requires c =
     let a = c.args in
-    let ρ : Room = room a.nodes a.faulty a.rows a.capacity a.quorums.now a.weaks.now in
-    let m : Memory = memory a.house a.board.now a.cells.now a.heard.now in
-    let e : c.judge_open-k.result ≡ open_reply ρ m = c.judge_open-k.ensures m.house in
-    let none : open_reply ρ m ≡ 0 = omega arith in
-    let told : Passed ρ m = passed ρ m none in
-    record { n_bound = told.places; n_in_bounds = told.wide.cells }
+    let m : Memory = memory a.house.now a.board.now a.cells.now a.heard.now in
+    let t = told a.plan m c.in_ok-judge_open.ensures in
+    record { n_bound = t.places; n_in_bounds = t.wide.cells }
 
 pub zeros-requires : goal.zeros-requires
 zeros-requires c =
     let a = c.args in
-    let ρ : Room = room a.nodes a.faulty a.rows a.capacity a.quorums.now a.weaks.now in
-    let m : Memory = memory a.house a.board.now a.cells.now a.heard.now in
-    let e : c.judge_open-k.result ≡ open_reply ρ m = c.judge_open-k.ensures m.house in
-    let none : open_reply ρ m ≡ 0 = omega arith in
-    let told : Passed ρ m = passed ρ m none in
-    told.wide.heard
+    let m : Memory = memory a.house.now a.board.now a.cells.now a.heard.now in
+    let t = told a.plan m c.in_ok-judge_open.ensures in
+    t.wide.heard
 
-pub house_of-made-requires : goal.house_of-made-requires
-house_of-made-requires c =
+pub house_of-requires : goal.house_of-requires
+house_of-requires c =
     let a = c.args in
-    let ρ : Room = room a.nodes a.faulty a.rows a.capacity a.quorums.now a.weaks.now in
-    let m : Memory = memory a.house a.board.now a.cells.now a.heard.now in
-    let e : c.judge_open-k.result ≡ open_reply ρ m = c.judge_open-k.ensures m.house in
-    let none : open_reply ρ m ≡ 0 = omega arith in
-    let told : Passed ρ m = passed ρ m none in
-    told.housed
+    let m : Memory = memory a.house.now a.board.now a.cells.now a.heard.now in
+    let t = told a.plan m c.in_ok-judge_open.ensures in
+    t.housed
 
 pub returns : goal.returns
 returns c =
     let a = c.args in
-    let ρ : Room = room a.nodes a.faulty a.rows a.capacity a.quorums.now a.weaks.now in
-    let m : Memory = memory a.house a.board.now a.cells.now a.heard.now in
-    let e : c.judge_open-k.result ≡ open_reply ρ m = c.judge_open-k.ensures m.house in
-    let none : open_reply ρ m ≡ 0 = omega arith in
-    done ρ m c.house_of-made.result _ _ none c.house_of-made.ensures c.fresh_cells.ensures c.zeros.ensures
+    let m : Memory = memory a.house.now a.board.now a.cells.now a.heard.now in
+    done (planned a.plan) m c.house_of.result _ _ (sym (c.in_ok-judge_open.ensures m.house)) c.house_of.ensures c.fresh_cells.ensures c.zeros.ensures

@@ -5,4 +5,4 @@ use Rattle.safe.specs.Safe.{Tells}
 use Rattle.safe.proofs.gathered.Given as goal
 
 abbrev pub invariant-loop-i : goal.invariant-loop-i
-invariant-loop-i l = Tells l.t l.row.0 l.ballot.0 l.tube.0 (heard_from (heard_at l.heard l.node.0) 0 (board_of l.board l.i))
+invariant-loop-i l = Tells l.t l.bid.row.0 l.bid.ballot.0 l.bid.tube.0 (heard_from (heard_at l.heard l.node.0) 0 (board_of l.board l.i))

@@ -11,6 +11,6 @@ pub returns : goal.returns
 returns c l g =
     let a = c.args in
     let e = sym c.heard_at.ensures ∙ c.if-not-heard_at.false in
-    subst (λ (z : List Msg). Tells c.told_more.result a.row.0 a.ballot.0 a.tube.0 z)
+    subst (λ (z : List Msg). Tells c.told_more.result a.bid.row.0 a.bid.ballot.0 a.bid.tube.0 z)
     (ap (λ (m : Message). l ++ (meaning m ∷ [])) c.msg_at.ensures ∙ sym (ap (λ (b : Bool). l ++ pick b (meaning (msg_at a.board.now a.k) ∷ []) []) e))
     (c.told_more.ensures l g)

@@ -1,22 +1,9 @@
 -- Known safe: part i of the gathered sets, or else part (ii).
-use Rattle.std.proofs.Common.{rules, ◌≡◌, Bool, ◌||◌, ap, sym, ◌∙◌}
-use Rattle.rules.specs.Tests.{any_below}
-use Rattle.safe.specs.Safe.{safe_at}
-use Rattle.safe.proofs.Tellers.{known_sets}
+use Rattle.safe.proofs.Tellers.{known_i, known_ii}
 use Rattle.safe.proofs.known_safe.Goals as goal
 
 pub returns-then-some_full : goal.returns-then-some_full
-returns-then-some_full c cells =
-    let a = c.args in
-    let n : c.from.result ≡ a.h.count = search rules in
-    c.if-some_full.true
-    ∙ sym (known_sets a.h a.board.now a.heard.now a.row.0 a.node.0 a.ballot.0 a.tube.0 c.gathered-t.result c.requires (rw n at c.gathered-t.ensures) cells
-    ∙ ap (λ (z : Bool). z || any_below (safe_at a.h c.gathered-t.result) a.ballot.0) (sym c.some_full.ensures ∙ c.if-some_full.true))
+returns-then-some_full c cells = known_i _ _ _ _ _ _ _ _ c.requires (rw c.from.ensures at c.gathered-t.ensures) cells c.from-2.ensures c.some_full.ensures c.if-some_full.true
 
 pub returns-else-some_full : goal.returns-else-some_full
-returns-else-some_full c cells =
-    let a = c.args in
-    let n : c.from.result ≡ a.h.count = search rules in
-    c.safe_below.ensures
-    ∙ sym (known_sets a.h a.board.now a.heard.now a.row.0 a.node.0 a.ballot.0 a.tube.0 c.gathered-t.result c.requires (rw n at c.gathered-t.ensures) cells
-    ∙ ap (λ (z : Bool). z || any_below (safe_at a.h c.gathered-t.result) a.ballot.0) (sym c.some_full.ensures ∙ c.if-some_full.false))
+returns-else-some_full c cells = known_ii _ _ _ _ _ _ _ _ c.requires (rw c.from.ensures at c.gathered-t.ensures) cells c.from-2.ensures c.some_full.ensures c.if-some_full.false c.safe_below.ensures

@@ -1,25 +1,24 @@
 -- The end is what is due: the closing lines, an opening before them, a missing heading, or nothing more.
-use native.Mathlib.Omega.{arith}
-use Rattle.rules.specs.Lent.{memory}
+use mathlib.Core.Path.{ap}
 use Rattle.closing.proofs.Writing.{wrote_none}
-use Rattle.page.specs.Held.{heads_of}
+use Rattle.page.specs.declared.Due.TheVariants.{Weaks, Step, Nothing}
+use Rattle.page.specs.Held.{due_of}
+use Rattle.page.proofs.Dues.{apart}
 use Rattle.session.proofs.Turns.{wrote_as, wrote_front, ends_none, ends_steps, ends_weak, ends_early}
 use Rattle.session.proofs.end_sheet.Goals as goal
 
-pub returns-then-heads-eq8 : goal.returns-then-heads-eq8
-returns-then-heads-eq8 c = let a = c.args in record { wrote = wrote_as (ends_none (heads_of a.heads) (memory a.house a.board.now a.cells.now a.heard.now) c.if-heads-eq8.true) (wrote_none a.out.now 0); upper_bound = omega arith }
+pub returns-in-Nothing-clause-wrote : goal.returns-in-Nothing-clause-wrote
+returns-in-Nothing-clause-wrote c = wrote_as (ends_none _ _ (ap due_of c.in-Nothing.is)) (wrote_none c.args.out.now 0)
 
-pub returns-then-heads-eq7 : goal.returns-then-heads-eq7
-returns-then-heads-eq7 c = let a = c.args in
-    let w = c.write_ending in
-    record { wrote = wrote_as (ends_steps (heads_of a.heads) (memory a.house a.board.now a.cells.now a.heard.now) c.if-heads-eq8.false c.if-heads-eq7.true) (wrote_front _ w.ensures.value w.ensures.out_after); upper_bound = omega (arith, w.ensures.upper_bound) }
+pub returns-in-Step-clause-wrote : goal.returns-in-Step-clause-wrote
+returns-in-Step-clause-wrote c =
+    let w = c.write_ending.ensures in
+    wrote_as (ends_steps _ _ (ap due_of c.in-Step.is)) (wrote_front _ w.value w.out_after)
 
-pub returns-then-heads-eq6 : goal.returns-then-heads-eq6
-returns-then-heads-eq6 c = let a = c.args in
-    let w = c.open_and_end in
-    record { wrote = wrote_as (ends_weak (heads_of a.heads) (memory a.house a.board.now a.cells.now a.heard.now) c.if-heads-eq8.false c.if-heads-eq7.false c.if-heads-eq6.true) w.ensures.wrote; upper_bound = w.ensures.upper_bound }
+pub returns-in-Weaks-clause-wrote : goal.returns-in-Weaks-clause-wrote
+returns-in-Weaks-clause-wrote c = wrote_as (ends_weak _ _ (ap due_of c.in-Weaks.is)) c.open_and_end.ensures.wrote
 
-pub returns : goal.returns
-returns c = let a = c.args in
-    let w = c.answer_line in
-    record { wrote = wrote_as (ends_early (heads_of a.heads) (memory a.house a.board.now a.cells.now a.heard.now) c.if-heads-eq8.false c.if-heads-eq7.false c.if-heads-eq6.false) w.ensures.wrote; upper_bound = omega (arith, w.ensures.upper_bound) }
+pub returns-in_default-clause-wrote : goal.returns-in_default-clause-wrote
+returns-in_default-clause-wrote c =
+    let n = c.in_default in
+    wrote_as (ends_early _ _ (apart _ Nothing n.not-Nothing) (apart _ Step n.not-Step) (apart _ Weaks n.not-Weaks)) c.answer_line.ensures.wrote

@@ -1,25 +1,18 @@
 -- The headings are read on; a line that ends them is bad, or begins the steps.
-use mathlib.Core.Path.{refl}
-use native.Mathlib.Omega.{arith}
-use Rattle.rules.specs.Lent.{memory}
-use Rattle.page.specs.Held.{heads_of}
-use Rattle.session.specs.Held.{said}
+use mathlib.Core.Path.{refl, ap}
+use Rattle.page.specs.declared.Due.TheVariants.{Step, Nothing}
+use Rattle.page.specs.Held.{due_of}
+use Rattle.page.proofs.Dues.{apart}
 use Rattle.session.proofs.Turns.{as_turn, in_silence, heading-begins, heading_bad, heading_on}
 use Rattle.session.proofs.take_heading.Goals as goal
 
-pub returns-then-next-eq7 : goal.returns-then-next-eq7
-returns-then-next-eq7 c = let a = c.args in
-    let g = c.headed-next in
-    let t = c.begin_steps in
-    record { took = as_turn (heading-begins (heads_of a.heads) (memory a.house a.board.now a.cells.now a.heard.now) (said a.line a.pairs) _ g.ensures c.if-next-eq7.true) t.ensures.took; end_bound = t.ensures.end_bound }
+pub returns-in-Step-clause-took : goal.returns-in-Step-clause-took
+returns-in-Step-clause-took c = as_turn (heading-begins _ _ c.args.read _ c.headed.ensures (ap due_of c.in-Step.is)) c.begin_steps.ensures.took
 
-pub returns-then-next-eq8 : goal.returns-then-next-eq8
-returns-then-next-eq8 c = let a = c.args in
-    let g = c.headed-next in
-    let w = c.answer_line-end in
-    record { took = as_turn (heading_bad (heads_of a.heads) (memory a.house a.board.now a.cells.now a.heard.now) (said a.line a.pairs) _ g.ensures c.if-next-eq7.false c.if-next-eq8.true) (record { keeps = refl; prints = w.ensures.wrote }); end_bound = omega (arith, w.ensures.upper_bound) }
+pub returns-in-Nothing-clause-took : goal.returns-in-Nothing-clause-took
+returns-in-Nothing-clause-took c =
+    as_turn (heading_bad _ _ c.args.read _ c.headed.ensures (ap due_of c.in-Nothing.is)) (record { keeps = refl; prints = c.answer_line.ensures.wrote })
 
-pub returns : goal.returns
-returns c = let a = c.args in
-    let g = c.headed-next in
-    record { took = as_turn (heading_on (heads_of a.heads) (memory a.house a.board.now a.cells.now a.heard.now) (said a.line a.pairs) _ g.ensures c.if-next-eq7.false c.if-next-eq8.false) (in_silence (heads_of g.result) (memory a.house a.board.now a.cells.now a.heard.now) a.out.now); end_bound = omega arith }
+pub returns-in_default-clause-took : goal.returns-in_default-clause-took
+returns-in_default-clause-took c =
+    as_turn (heading_on _ _ c.args.read _ c.headed.ensures (apart _ Step c.in_default.not-Step) (apart _ Nothing c.in_default.not-Nothing)) (in_silence _ _ c.args.out.now)

@@ -1,21 +1,18 @@
 -- A line is a step, a heading or nothing more, as is due.
-use native.Mathlib.Omega.{arith}
-use Rattle.rules.specs.Lent.{memory}
-use Rattle.lines.specs.Grammar.{parsed}
-use Rattle.page.specs.Held.{heads_of}
+use mathlib.Core.Path.{ap}
+use Rattle.page.specs.declared.Due.TheVariants.{Step, Nothing}
+use Rattle.page.specs.Held.{due_of, heads_of}
+use Rattle.page.proofs.Dues.{apart}
 use Rattle.session.proofs.Turns.{as_turn, in_silence, takes_none, takes-heading, takes_step, as_read}
 use Rattle.session.proofs.take_line.Goals as goal
 
-pub returns-then-heads-eq8 : goal.returns-then-heads-eq8
-returns-then-heads-eq8 c = let a = c.args in
-    record { took = as_turn (takes_none (heads_of a.heads) (memory a.house a.board.now a.cells.now a.heard.now) (parsed a.text.now) c.if-heads-eq8.true) (in_silence (heads_of a.heads) (memory a.house a.board.now a.cells.now a.heard.now) a.out.now); end_bound = omega arith }
+pub returns-in-Nothing-clause-took : goal.returns-in-Nothing-clause-took
+returns-in-Nothing-clause-took c = as_turn (takes_none _ _ _ (ap due_of c.in-Nothing.is)) (in_silence _ _ c.args.out.now)
 
-pub returns-then-heads-ne7 : goal.returns-then-heads-ne7
-returns-then-heads-ne7 c = let a = c.args in
-    let t = c.take_heading in
-    record { took = as_turn (as_read (heads_of a.heads) (memory a.house a.board.now a.cells.now a.heard.now) c.read_line-read.ensures (takes-heading (heads_of a.heads) (memory a.house a.board.now a.cells.now a.heard.now) _ c.if-heads-eq8.false c.if-heads-ne7.true)) t.ensures.took; end_bound = t.ensures.end_bound }
+pub returns-in-Step-clause-took : goal.returns-in-Step-clause-took
+returns-in-Step-clause-took c =
+    as_turn (as_read _ _ c.read_line-read.ensures (takes_step _ _ _ (ap due_of c.in-Step.is))) (c.take_step.ensures.took (heads_of c.args.heads.now))
 
-pub returns : goal.returns
-returns c = let a = c.args in
-    let t = c.take_step-told in
-    record { took = as_turn (as_read (heads_of a.heads) (memory a.house a.board.now a.cells.now a.heard.now) c.read_line-read.ensures (takes_step (heads_of a.heads) (memory a.house a.board.now a.cells.now a.heard.now) _ c.if-heads-eq8.false c.if-heads-ne7.false)) (t.ensures.took (heads_of a.heads)); end_bound = omega (arith, t.ensures.end_bound) }
+pub returns-in_default-clause-took : goal.returns-in_default-clause-took
+returns-in_default-clause-took c =
+    as_turn (as_read _ _ c.read_line.ensures (takes-heading _ _ _ (apart _ Nothing c.in_default.not-Nothing) (apart _ Step c.in_default.not-Step))) c.take_heading.ensures.took

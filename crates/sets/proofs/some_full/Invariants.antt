@@ -7,4 +7,4 @@ abbrev pub invariant-loop-a : goal.invariant-loop-a
 invariant-loop-a l = all_in l.a l.q (bit l.have) ≡ true
 
 abbrev pub invariant-sets : goal.invariant-sets
-invariant-sets l = any_below (λ i. all_in l.nodes (get_or l.q-items i 0) (bit l.have)) l.q-index ≡ false
+invariant-sets l = any_below (λ i. all_in l.nodes (get_or l.list i 0) (bit l.have)) l.q-index ≡ false

@@ -19,34 +19,34 @@ Step m r n b v = let o = (read m).cells r n in
 step : (m : Memory) (r n b v : ℕ) → Whole m → reply m (c2b r n b v) ≡ 0 → Step m r n b v
 step m r n b v w t = accepted m _ _ _ _ _ w t refl
 
-pub post-out-requires : goal.post-out-requires
+pub post-requires : goal.post-requires
 unfolding stored
-post-out-requires c =
+post-requires c =
     let a = c.args in
-    let m = memory a.h a.board.now a.cells.now a.heard.now in
-    let s = step m a.row.0 a.node.0 a.ballot.0 a.tube.0 c.requires.whole c.requires.tube_value in
-    may_post s _ c.bare-m.ensures
+    let m = memory a.house.now a.board.now a.cells.now a.heard.now in
+    let s = step m a.bid.row.0 a.node.0 a.bid.ballot.0 a.bid.tube.0 c.requires.whole c.requires.tube_value in
+    may_post s _ c.bare.ensures.value
 
 pub place-k-requires : goal.place-k-requires
 place-k-requires c =
     let a = c.args in
-    let m = memory a.h a.board.now a.cells.now a.heard.now in
-    let s = step m a.row.0 a.node.0 a.ballot.0 a.tube.0 c.requires.whole c.requires.tube_value in
+    let m = memory a.house.now a.board.now a.cells.now a.heard.now in
+    let s = step m a.bid.row.0 a.node.0 a.bid.ballot.0 a.bid.tube.0 c.requires.whole c.requires.tube_value in
     s.seat.low
 
-pub cell_at-c-requires : goal.cell_at-c-requires
-cell_at-c-requires c =
+pub cell_at-voted-requires : goal.cell_at-voted-requires
+cell_at-voted-requires c =
     let a = c.args in
-    let m = memory a.h a.board.now a.cells.now a.heard.now in
-    let s = step m a.row.0 a.node.0 a.ballot.0 a.tube.0 c.requires.whole c.requires.tube_value in
+    let m = memory a.house.now a.board.now a.cells.now a.heard.now in
+    let s = step m a.bid.row.0 a.node.0 a.bid.ballot.0 a.bid.tube.0 c.requires.whole c.requires.tube_value in
     let lies = reachable s.whole s.seat _ c.place-k.ensures in
     record { k_bound = lies.0; k_in_bounds = lies.1 }
 
 pub set_cell-requires : goal.set_cell-requires
 set_cell-requires c =
     let a = c.args in
-    let m = memory a.h a.board.now a.cells.now a.heard.now in
-    let s = step m a.row.0 a.node.0 a.ballot.0 a.tube.0 c.requires.whole c.requires.tube_value in
+    let m = memory a.house.now a.board.now a.cells.now a.heard.now in
+    let s = step m a.bid.row.0 a.node.0 a.bid.ballot.0 a.bid.tube.0 c.requires.whole c.requires.tube_value in
     let lies = reachable s.whole s.seat _ c.place-k.ensures in
     record { k_bound = lies.0; k_in_bounds = lies.1 }
 
@@ -54,7 +54,7 @@ pub returns : goal.returns
 unfolding stored
 returns c =
     let a = c.args in
-    let m = memory a.h a.board.now a.cells.now a.heard.now in
-    let s = step m a.row.0 a.node.0 a.ballot.0 a.tube.0 c.requires.whole c.requires.tube_value in
-    let own : c.cell_at-c.result ≡ stored_cell ((read m).cells a.row.0 a.node.0) = own-cell s.whole s.seat _ c.place-k.ensures _ c.cell_at-c.ensures in
-    acted s _ _ _ _ _ _ c.bare-m.ensures c.place-k.ensures (voted _ ((read m).cells a.row.0 a.node.0) own a.ballot.0 a.tube.0) c.post-out.ensures c.set_cell.ensures
+    let m = memory a.house.now a.board.now a.cells.now a.heard.now in
+    let s = step m a.bid.row.0 a.node.0 a.bid.ballot.0 a.bid.tube.0 c.requires.whole c.requires.tube_value in
+    let own : c.cell_at-voted.result ≡ stored_cell ((read m).cells a.bid.row.0 a.node.0) = own-cell s.whole s.seat _ c.place-k.ensures _ c.cell_at-voted.ensures in
+    acted s _ _ _ _ _ _ c.bare.ensures.value c.place-k.ensures (voted _ ((read m).cells a.bid.row.0 a.node.0) own a.bid.ballot.0 a.bid.tube.0) c.post.ensures c.set_cell.ensures

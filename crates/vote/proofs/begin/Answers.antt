@@ -1,127 +1,50 @@
 -- The first three tests: numbers within limits, a tube on intake, and a ballot that is not below max_bal.
-use Prim.Native.Nat.{suc, ◌≤◌}
-use mathlib.Core.Path.{◌≡◌, refl, sym, ◌∙◌}
-use mathlib.Core.Bool.{Bool, true, false}
+use Rattle.std.proofs.Common.{◌≡◌, Bool, true, false, [], ◌∷◌, refl, ap, sym, ◌∙◌, arith, leb, ℕ, ◌+◌, ◌≤◌}
 use native.Mathlib.Numerals.{add-one}
-use native.Mathlib.Omega.{arith}
-use lib.Dec.{leb}
-use Rattle.rules.specs.Tests.{pick}
-use Rattle.rules.specs.Words.{m2av}
-use Rattle.rules.specs.Lent.{Memory, memory, room_of, read, limits}
+use Rattle.rules.specs.Tests.{first}
+use Rattle.rules.specs.Words.{height_of, m2av}
+use Rattle.rules.specs.Lent.{Memory, lent, cell_at, place, room_of, read, limits}
+use Rattle.rules.specs.declared.Bid.{Bid}
+use Rattle.rules.specs.declared.Cell as cell_as_stored
+use Rattle.rules.specs.declared.Node.{Node}
 use Rattle.rules.proofs.Codec.{At}
+use Rattle.kept.specs.Kept.{Whole}
+use Rattle.kept.proofs.Ready.{form}
+use Rattle.judge.specs.Narrow.{Cast}
+use Rattle.judge.proofs.Cells.{height_reads}
 use Rattle.vote.specs.Begun.{begun}
-use Rattle.vote.proofs.Seat.{reachable, own_height}
-use Rattle.vote.proofs.Says.{says-begun, inside}
+use Rattle.vote.proofs.Says.{says-begun, same_begun, same_six, same_seven, inside}
 use Rattle.vote.proofs.begin.Goals as goal
 
-pub returns-then-not-vote_in : goal.returns-then-not-vote_in
-returns-then-not-vote_in c =
-    let lent : Memory =
-    let a = c.args in memory a.h a.board.now a.cells.now a.heard.now in
-    let a = c.args in
-    says-begun lent a.row a.node a.ballot a.tube false _ _ (sym c.vote_in.ensures ∙ c.if-not-vote_in.true) refl refl
+-- test 6 passed, and n and d are the given numbers, narrowed
+module _ (m : Memory) {row node ballot tube : ℕ} {n : Node} {d : Bid} (z : limits (room_of m.house) (m2av row ballot node tube) ≡ true) (e : Cast row node ballot tube (n, d)) where
+  within : At (room_of m.house) d.row.0 n.0 × (d.ballot.0 ≤ 15) × (d.tube.0 ≤ 64)
+  within = inside m _ _ _ _ (same_six m e ∙ z)
 
-pub returns-then-not-on_intake : goal.returns-then-not-on_intake
-returns-then-not-on_intake c =
-    let lent : Memory =
-    let a = c.args in memory a.h a.board.now a.cells.now a.heard.now in
-    let six : let a = c.args in limits (room_of a.h) (m2av a.row a.ballot a.node a.tube) ≡ true =
-    sym c.vote_in.ensures ∙ c.if-not-vote_in.false in
-    let a = c.args in
-    says-begun lent a.row a.node a.ballot a.tube true false _ six (sym c.on_intake.ensures ∙ c.if-not-on_intake.true) refl
+  -- what the other two answer together
+  tests : Whole m → {o : cell_as_stored.Cell} → o ≡ cell_at m.cells (place m.house.rows d.row.0 n.0) → (y : Bool) → leb tube m.house.tubes ≡ true
+      → leb (height_of o.maxbal) (d.ballot.0 + 1) ≡ y → first ((y, 8) ∷ []) ≡ begun m row node ballot tube
+  tests w q y f g =
+      says-begun m _ _ _ _ true true y (same_six m e ∙ z) (same_seven m e ∙ f)
+      (ap (leb ((read m).cells d.row.0 n.0).max_bal) (sym (add-one d.ballot.0)) ∙ sym (height_reads m (form m w.form) d.row.0 n.0 within.0 _ q refl) ∙ g) ∙ same_begun m e
 
-pub overflow_cast-row : goal.overflow_cast-row
-overflow_cast-row c =
-    let lent : Memory =
-    let a = c.args in memory a.h a.board.now a.cells.now a.heard.now in
-    let six : let a = c.args in limits (room_of a.h) (m2av a.row a.ballot a.node a.tube) ≡ true =
-    sym c.vote_in.ensures ∙ c.if-not-vote_in.false in
-    let small : let a = c.args in At (room_of a.h) a.row a.node × (a.ballot ≤ 15) × (a.tube ≤ 64) =
-    let a = c.args in inside lent a.row a.node a.ballot a.tube six in
-    omega (arith, (small).0)
+pub returns-in_default-clause-number : goal.returns-in_default-clause-number
+returns-in_default-clause-number c = says-begun (lent c.args.m) c.args.row c.args.node c.args.ballot c.args.tube false _ _ c.in_default.ensures refl refl
 
-pub overflow_cast-node : goal.overflow_cast-node
-overflow_cast-node c =
-    let lent : Memory =
-    let a = c.args in memory a.h a.board.now a.cells.now a.heard.now in
-    let six : let a = c.args in limits (room_of a.h) (m2av a.row a.ballot a.node a.tube) ≡ true =
-    sym c.vote_in.ensures ∙ c.if-not-vote_in.false in
-    let small : let a = c.args in At (room_of a.h) a.row a.node × (a.ballot ≤ 15) × (a.tube ≤ 64) =
-    let a = c.args in inside lent a.row a.node a.ballot a.tube six in
-    omega (arith, (small).0)
+pub returns-then-not-on_intake-clause-number : goal.returns-then-not-on_intake-clause-number
+returns-then-not-on_intake-clause-number c =
+    says-begun (lent c.args.m) c.args.row c.args.node c.args.ballot c.args.tube true false _ c.in-Some.ensures.0 (sym c.on_intake.ensures ∙ c.if-not-on_intake.true) refl
 
-pub place-k-requires : goal.place-k-requires
-place-k-requires c =
-    let lent : Memory =
-    let a = c.args in memory a.h a.board.now a.cells.now a.heard.now in
-    let six : let a = c.args in limits (room_of a.h) (m2av a.row a.ballot a.node a.tube) ≡ true =
-    sym c.vote_in.ensures ∙ c.if-not-vote_in.false in
-    let small : let a = c.args in At (room_of a.h) a.row a.node × (a.ballot ≤ 15) × (a.tube ≤ 64) =
-    let a = c.args in inside lent a.row a.node a.ballot a.tube six in
-    (small).0.low
+pub own_cell-c-requires-clause-seat : goal.own_cell-c-requires-clause-seat
+own_cell-c-requires-clause-seat c = (within (lent c.args.m) c.in-Some.ensures.0 c.in-Some.ensures.1).0
 
-pub cell_at-c-requires : goal.cell_at-c-requires
-cell_at-c-requires c =
-    let lent : Memory =
-    let a = c.args in memory a.h a.board.now a.cells.now a.heard.now in
-    let six : let a = c.args in limits (room_of a.h) (m2av a.row a.ballot a.node a.tube) ≡ true =
-    sym c.vote_in.ensures ∙ c.if-not-vote_in.false in
-    let small : let a = c.args in At (room_of a.h) a.row a.node × (a.ballot ≤ 15) × (a.tube ≤ 64) =
-    let a = c.args in inside lent a.row a.node a.ballot a.tube six in
-    let parts = reachable c.requires (small).0 _ c.place-k.ensures in record { k_bound = parts.0; k_in_bounds = parts.1 }
+pub overflow_add-bid : goal.overflow_add-bid
+overflow_add-bid c = omega (arith, within (lent c.args.m) c.in-Some.ensures.0 c.in-Some.ensures.1)
 
-pub overflow_cast-ballot : goal.overflow_cast-ballot
-overflow_cast-ballot c =
-    let lent : Memory =
-    let a = c.args in memory a.h a.board.now a.cells.now a.heard.now in
-    let six : let a = c.args in limits (room_of a.h) (m2av a.row a.ballot a.node a.tube) ≡ true =
-    sym c.vote_in.ensures ∙ c.if-not-vote_in.false in
-    let small : let a = c.args in At (room_of a.h) a.row a.node × (a.ballot ≤ 15) × (a.tube ≤ 64) =
-    let a = c.args in inside lent a.row a.node a.ballot a.tube six in
-    omega (arith, (small).1)
+pub returns-then-not-height_at_most-clause-number : goal.returns-then-not-height_at_most-clause-number
+returns-then-not-height_at_most-clause-number c =
+    tests (lent c.args.m) c.in-Some.ensures.0 c.in-Some.ensures.1 c.requires c.own_cell-c.ensures false (sym c.on_intake.ensures ∙ c.if-not-on_intake.false) (sym c.height_at_most.ensures ∙ c.if-not-height_at_most.true)
 
-pub overflow_add-ballot : goal.overflow_add-ballot
-overflow_add-ballot c =
-    let lent : Memory =
-    let a = c.args in memory a.h a.board.now a.cells.now a.heard.now in
-    let six : let a = c.args in limits (room_of a.h) (m2av a.row a.ballot a.node a.tube) ≡ true =
-    sym c.vote_in.ensures ∙ c.if-not-vote_in.false in
-    let small : let a = c.args in At (room_of a.h) a.row a.node × (a.ballot ≤ 15) × (a.tube ≤ 64) =
-    let a = c.args in inside lent a.row a.node a.ballot a.tube six in
-    omega (arith, (small).1)
-
-pub returns-then-not-height_at_most : goal.returns-then-not-height_at_most
-returns-then-not-height_at_most c =
-    let lent : Memory =
-    let a = c.args in memory a.h a.board.now a.cells.now a.heard.now in
-    let six : let a = c.args in limits (room_of a.h) (m2av a.row a.ballot a.node a.tube) ≡ true =
-    sym c.vote_in.ensures ∙ c.if-not-vote_in.false in
-    let seven : let a = c.args in leb a.tube a.h.tubes ≡ true =
-    sym c.on_intake.ensures ∙ c.if-not-on_intake.false in
-    let small : let a = c.args in At (room_of a.h) a.row a.node × (a.ballot ≤ 15) × (a.tube ≤ 64) =
-    let a = c.args in inside lent a.row a.node a.ballot a.tube six in
-    let eight : c.height_at_most.result ≡ leb ((read lent).cells c.args.row c.args.node).max_bal (suc c.args.ballot) =
-    let k = c.place-k.ensures in
-    c.height_at_most.ensures ∙ (λ i. leb (own_height c.requires (small).0 _ k _ c.cell_at-c.ensures i) (add-one c.args.ballot i)) in
-    let last : (x : Bool) → c.height_at_most.result ≡ x → let a = c.args in pick x 0 8 ≡ begun lent a.row a.node a.ballot a.tube =
-    λ x e. let a = c.args in
-    says-begun lent a.row a.node a.ballot a.tube true true x six seven (sym eight ∙ e) in
-    last false (c.if-not-height_at_most.true)
-
-pub returns : goal.returns
-returns c =
-    let lent : Memory =
-    let a = c.args in memory a.h a.board.now a.cells.now a.heard.now in
-    let six : let a = c.args in limits (room_of a.h) (m2av a.row a.ballot a.node a.tube) ≡ true =
-    sym c.vote_in.ensures ∙ c.if-not-vote_in.false in
-    let seven : let a = c.args in leb a.tube a.h.tubes ≡ true =
-    sym c.on_intake.ensures ∙ c.if-not-on_intake.false in
-    let small : let a = c.args in At (room_of a.h) a.row a.node × (a.ballot ≤ 15) × (a.tube ≤ 64) =
-    let a = c.args in inside lent a.row a.node a.ballot a.tube six in
-    let eight : c.height_at_most.result ≡ leb ((read lent).cells c.args.row c.args.node).max_bal (suc c.args.ballot) =
-    let k = c.place-k.ensures in
-    c.height_at_most.ensures ∙ (λ i. leb (own_height c.requires (small).0 _ k _ c.cell_at-c.ensures i) (add-one c.args.ballot i)) in
-    let last : (x : Bool) → c.height_at_most.result ≡ x → let a = c.args in pick x 0 8 ≡ begun lent a.row a.node a.ballot a.tube =
-    λ x e. let a = c.args in
-    says-begun lent a.row a.node a.ballot a.tube true true x six seven (sym eight ∙ e) in
-    last true (c.if-not-height_at_most.false)
+pub returns-clause-number : goal.returns-clause-number
+returns-clause-number c =
+    tests (lent c.args.m) c.in-Some.ensures.0 c.in-Some.ensures.1 c.requires c.own_cell-c.ensures true (sym c.on_intake.ensures ∙ c.if-not-on_intake.false) (sym c.height_at_most.ensures ∙ c.if-not-height_at_most.false)

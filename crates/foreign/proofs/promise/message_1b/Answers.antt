@@ -1,50 +1,26 @@
 -- A 1b: numbers within limits fit their bytes, and its pair array is that of the pairs it counts.
-use mathlib.Core.Path.{ap, ◌∙◌}
-use native.Mathlib.Omega.{arith}
-use borrow.Author.Rules.{rules}
+use Rattle.std.proofs.Common.{refl, true, false, arith}
 use Rattle.rules.specs.Lent.{room_of}
-use Rattle.foreign.proofs.Bytes.{each_byte, fit_whole}
-use Rattle.foreign.proofs.Within.{within_1b, carried, stored_1b}
+use Rattle.foreign.proofs.Bytes.{count_in}
+use Rattle.foreign.proofs.Within.{tested, stored_1b}
 use Rattle.foreign.proofs.promise.message_1b.Goals as goal
 
-pub overflow_cast-result : goal.overflow_cast-result
-overflow_cast-result c =
-    let w = within_1b c.args.h c.args.p c.args.pairs (search rules) c.requires in
-    omega arith
+pub returns-in_err-row : goal.returns-in_err-row
+returns-in_err-row c = rw c.from_residual.ensures (tested _ _ _ _ _ _ _ (room_of c.args.h.now) false _ _ c.in_err-row.ensures refl refl)
 
-pub overflow_cast-result-2 : goal.overflow_cast-result-2
-overflow_cast-result-2 c =
-    let w = within_1b c.args.h c.args.p c.args.pairs (search rules) c.requires in
-    omega arith
+pub returns-then-not-height_in-p : goal.returns-then-not-height_in-p
+returns-then-not-height_in-p c =
+    tested _ _ _ _ _ _ _ (room_of c.args.h.now) true false _ c.in_ok-row.ensures.0 (rw c.height_in.ensures at c.if-not-height_in-p.true) refl
+
+pub returns-in_err-pairs : goal.returns-in_err-pairs
+returns-in_err-pairs c =
+    rw c.from_residual-in_err-pairs.ensures (tested _ _ _ _ _ _ _ (room_of c.args.h.now) true true false c.in_ok-row.ensures.0 (rw c.height_in.ensures at c.if-not-height_in-p.false) c.in_err-pairs.ensures)
 
 pub overflow_cast-result-3 : goal.overflow_cast-result-3
-overflow_cast-result-3 c =
-    let w = within_1b c.args.h c.args.p c.args.pairs (search rules) c.requires in
-    omega arith
-
-pub overflow_cast-result-4 : goal.overflow_cast-result-4
-overflow_cast-result-4 c =
-    let w = within_1b c.args.h c.args.p c.args.pairs (search rules) c.requires in
-    omega arith
-
-pub overflow_cast-result-5 : goal.overflow_cast-result-5
-overflow_cast-result-5 c =
-    let w = within_1b c.args.h c.args.p c.args.pairs (search rules) c.requires in
-    omega arith
-
-pub overflow_cast-result-6 : goal.overflow_cast-result-6
-overflow_cast-result-6 c =
-    let w = within_1b c.args.h c.args.p c.args.pairs (search rules) c.requires in
-    omega arith
-
-pub narrowed-requires : goal.narrowed-requires
-narrowed-requires c =
-    let w = within_1b c.args.h c.args.p c.args.pairs (search rules) c.requires in
-    (omega arith, (search rules, each_byte c.args.pairs w.bytes))
+overflow_cast-result-3 c = omega (arith, count_in c.args.pairs c.args.p.count c.in_ok-pairs.ensures.0)
 
 pub returns : goal.returns
 returns c =
-    let a = c.args in
-    let w = within_1b a.h a.p a.pairs (search rules) c.requires in
-    ap (carried a.p.row a.p.ballot a.p.node a.p.mbal a.p.mval a.p.count) (c.narrowed.ensures ∙ fit_whole 32 a.pairs (search rules))
-    ∙ stored_1b (room_of a.h) a.p.row a.p.ballot a.p.node a.p.mbal a.p.mval a.p.count a.pairs w
+    let e = c.in_ok-row.ensures in
+    let g = c.in_ok-pairs.ensures in
+    (tested _ _ _ _ _ _ _ (room_of c.args.h.now) true true true e.0 (rw c.height_in.ensures at c.if-not-height_in-p.false) g.0, stored_1b _ _ _ _ _ _ _ c.into.ensures e.1 g.1 g.0)

@@ -1,7 +1,12 @@
 -- A 2av is within limits where its row, ballot, node and tube are.
+use Rattle.std.proofs.Common.{rules}
 use Rattle.rules.specs.Lent.{limits}
 use Rattle.judge.proofs.limits.vote_in.Goals as goal
 
+pub returns-then-not-has_row-ballot_in : goal.returns-then-not-has_row-ballot_in
+unfolding limits
+returns-then-not-has_row-ballot_in c = cc
+
 pub returns : goal.returns
 unfolding limits
-returns c = cc
+returns c = (cc, search rules)

@@ -3,13 +3,13 @@ use native.Mathlib.Omega.{arith}
 use Rattle.open.proofs.Housed.{sizes, bytes}
 use Rattle.open.proofs.room.house_of.Goals as goal
 
-pub narrowed-q-requires : goal.narrowed-q-requires
-narrowed-q-requires c =
-    (omega arith, ((sizes c.requires).quorums, bytes c.requires c.args.quorums.now c.requires.quorums))
+pub narrowed-quorums-requires : goal.narrowed-quorums-requires
+narrowed-quorums-requires c =
+    (omega arith, ((sizes c.requires).quorums, bytes c.requires c.args.plan.quorums.now c.requires.quorums))
 
-pub narrowed-w-requires : goal.narrowed-w-requires
-narrowed-w-requires c =
-    (omega arith, ((sizes c.requires).weaks, bytes c.requires c.args.weaks.now c.requires.weaks))
+pub narrowed-weaks-requires : goal.narrowed-weaks-requires
+narrowed-weaks-requires c =
+    (omega arith, ((sizes c.requires).weaks, bytes c.requires c.args.plan.weaks.now c.requires.weaks))
 
 pub overflow_cast-result : goal.overflow_cast-result
 overflow_cast-result c = let z = sizes c.requires in omega arith
@@ -30,4 +30,4 @@ pub overflow_cast-result-6 : goal.overflow_cast-result-6
 overflow_cast-result-6 c = let z = sizes c.requires in omega arith
 
 pub returns : goal.returns
-returns c = rw (c.narrowed-q.ensures, c.narrowed-w.ensures)
+returns c = rw (c.narrowed-quorums.ensures, c.narrowed-weaks.ensures)

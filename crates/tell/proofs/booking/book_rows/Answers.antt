@@ -23,5 +23,5 @@ loop-k-preserved c =
 pub returns : goal.returns
 returns c cells heard =
     let l = c.loop-k in
-    let e : l.k ≡ c.args.h.rows = omega arith in
+    let e : l.k ≡ c.args.h.now.rows = omega arith in
     rw e at (ended _ _ l.tubes l.k (l.invariant.so cells heard) e)

@@ -14,4 +14,4 @@ loop-k-preserved c =
     let s = c.args.board.now in
     let l = c.loop-k in
     let e = c.add_vote.ensures in
-    record { size = ap length e ∙ length-voted l.votes c.args.row (msg_at s l.k) ∙ l.invariant.size; votes = rw e (counted_next c.args.h s l.votes c.args.row l.k c.requires (omega arith) l.invariant.size l.invariant.votes) }
+    record { size = ap length e ∙ length-voted l.votes c.args.row (msg_at s l.k) ∙ l.invariant.size; votes = rw e (counted_next c.args.h.now s l.votes c.args.row l.k c.requires (omega arith) l.invariant.size l.invariant.votes) }

@@ -16,20 +16,20 @@ use Rattle.write.proofs.act.act_1b.Goals as goal
 pub place-k-requires : goal.place-k-requires
 place-k-requires c =
     let lent : Memory =
-    let a = c.args in memory a.h a.board.now a.cells.now a.heard.now in
+    let a = c.args in memory a.house.now a.board.now a.cells.now a.heard.now in
     let past : let a = c.args in Passed lent (c1b a.row.0 a.node.0 a.ballot.0) =
     let a = c.args in passed lent (c1b a.row.0 a.node.0 a.ballot.0) c.requires.whole.typed c.requires.ballot_value in
-    let at : let a = c.args in At (room_of a.h) a.row.0 a.node.0 =
+    let at : let a = c.args in At (room_of a.house.now) a.row.0 a.node.0 =
     let a = c.args in (ready lent (c1b a.row.0 a.node.0 a.ballot.0) past).1.0 in
     (at).low
 
 pub cell_at-c-requires : goal.cell_at-c-requires
 cell_at-c-requires c =
     let lent : Memory =
-    let a = c.args in memory a.h a.board.now a.cells.now a.heard.now in
+    let a = c.args in memory a.house.now a.board.now a.cells.now a.heard.now in
     let past : let a = c.args in Passed lent (c1b a.row.0 a.node.0 a.ballot.0) =
     let a = c.args in passed lent (c1b a.row.0 a.node.0 a.ballot.0) c.requires.whole.typed c.requires.ballot_value in
-    let at : let a = c.args in At (room_of a.h) a.row.0 a.node.0 =
+    let at : let a = c.args in At (room_of a.house.now) a.row.0 a.node.0 =
     let a = c.args in (ready lent (c1b a.row.0 a.node.0 a.ballot.0) past).1.0 in
     let lies : (c.place-k.result < 512) × (36 * c.place-k.result + 36 ≤ length c.args.cells.now) =
     let a = c.args in (
@@ -38,15 +38,15 @@ cell_at-c-requires c =
     ) in
     let parts = lies in record { k_bound = parts.0; k_in_bounds = parts.1 }
 
-pub post-out-requires : goal.post-out-requires
-post-out-requires c =
+pub post-requires : goal.post-requires
+post-requires c =
     let lent : Memory =
-    let a = c.args in memory a.h a.board.now a.cells.now a.heard.now in
+    let a = c.args in memory a.house.now a.board.now a.cells.now a.heard.now in
     let past : let a = c.args in Passed lent (c1b a.row.0 a.node.0 a.ballot.0) =
     let a = c.args in passed lent (c1b a.row.0 a.node.0 a.ballot.0) c.requires.whole.typed c.requires.ballot_value in
-    let at : let a = c.args in At (room_of a.h) a.row.0 a.node.0 =
+    let at : let a = c.args in At (room_of a.house.now) a.row.0 a.node.0 =
     let a = c.args in (ready lent (c1b a.row.0 a.node.0 a.ballot.0) past).1.0 in
-    let found : let a = c.args in c.cell_at-c.result ≡ cell_at a.cells.now (place a.h.rows a.row.0 a.node.0) =
+    let found : let a = c.args in c.cell_at-c.result ≡ cell_at a.cells.now (place a.house.now.rows a.row.0 a.node.0) =
     let a = c.args in c.cell_at-c.ensures ∙ ap (cell_at a.cells.now) c.place-k.ensures in
     let message : c.promise-m.result ≡ stored (told (read lent) c.args.row.0 c.args.node.0 c.args.ballot.0) =
     let a = c.args in
@@ -59,10 +59,10 @@ post-out-requires c =
 pub set_cell-requires : goal.set_cell-requires
 set_cell-requires c =
     let lent : Memory =
-    let a = c.args in memory a.h a.board.now a.cells.now a.heard.now in
+    let a = c.args in memory a.house.now a.board.now a.cells.now a.heard.now in
     let past : let a = c.args in Passed lent (c1b a.row.0 a.node.0 a.ballot.0) =
     let a = c.args in passed lent (c1b a.row.0 a.node.0 a.ballot.0) c.requires.whole.typed c.requires.ballot_value in
-    let at : let a = c.args in At (room_of a.h) a.row.0 a.node.0 =
+    let at : let a = c.args in At (room_of a.house.now) a.row.0 a.node.0 =
     let a = c.args in (ready lent (c1b a.row.0 a.node.0 a.ballot.0) past).1.0 in
     let lies : (c.place-k.result < 512) × (36 * c.place-k.result + 36 ≤ length c.args.cells.now) =
     let a = c.args in (
@@ -75,12 +75,12 @@ pub returns : goal.returns
 unfolding write
 returns c =
     let lent : Memory =
-    let a = c.args in memory a.h a.board.now a.cells.now a.heard.now in
+    let a = c.args in memory a.house.now a.board.now a.cells.now a.heard.now in
     let past : let a = c.args in Passed lent (c1b a.row.0 a.node.0 a.ballot.0) =
     let a = c.args in passed lent (c1b a.row.0 a.node.0 a.ballot.0) c.requires.whole.typed c.requires.ballot_value in
-    let at : let a = c.args in At (room_of a.h) a.row.0 a.node.0 =
+    let at : let a = c.args in At (room_of a.house.now) a.row.0 a.node.0 =
     let a = c.args in (ready lent (c1b a.row.0 a.node.0 a.ballot.0) past).1.0 in
-    let found : let a = c.args in c.cell_at-c.result ≡ cell_at a.cells.now (place a.h.rows a.row.0 a.node.0) =
+    let found : let a = c.args in c.cell_at-c.result ≡ cell_at a.cells.now (place a.house.now.rows a.row.0 a.node.0) =
     let a = c.args in c.cell_at-c.ensures ∙ ap (cell_at a.cells.now) c.place-k.ensures in
     let message : c.promise-m.result ≡ stored (told (read lent) c.args.row.0 c.args.node.0 c.args.ballot.0) =
     let a = c.args in
@@ -95,7 +95,7 @@ returns c =
     let small = (ready lent (c1b r n a.ballot.0) past).0.small in
     cell-after lent x r n (record { max_bal = suc a.ballot.0; max_vbal = o.max_vbal; max_vval = o.max_vval; pairs = o.pairs })
     (record { maxbal = a.ballot.0; maxvbal = k.maxvbal; maxvval = k.maxvval; count = k.count; pairs = k.pairs }) _
-    (posted lent x _ message small c.post-out.ensures)
+    (posted lent x _ message small c.post.ensures)
     (raised_as lent (past).form r n a.ballot.0 at k found)
     c.place-k.ensures
     c.set_cell.ensures

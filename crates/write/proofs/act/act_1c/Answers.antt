@@ -11,19 +11,19 @@ pub post-requires : goal.post-requires
 unfolding stored
 post-requires c =
     let lent : Memory =
-    let a = c.args in memory a.h a.board.now a.cells.now a.heard.now in
-    let r = c.args.row.0 in
-    let k = c.args.ballot.0 in
-    let v = c.args.tube.0 in
+    let a = c.args in memory a.house.now a.board.now a.cells.now a.heard.now in
+    let r = c.args.bid.row.0 in
+    let k = c.args.bid.ballot.0 in
+    let v = c.args.bid.tube.0 in
     let p = passed lent (c1c r k v) c.requires.whole.typed c.requires.tube_value in
-    postable lent (m1c r k v) _ c.bare-m.ensures p.size p.form (ready lent (c1c r k v) p)
+    postable lent (m1c r k v) _ c.offer.ensures.value p.size p.form (ready lent (c1c r k v) p)
 
 pub returns : goal.returns
 unfolding stored
 returns c =
     let lent : Memory =
-    let a = c.args in memory a.h a.board.now a.cells.now a.heard.now in
-    let r = c.args.row.0 in
-    let k = c.args.ballot.0 in
-    let v = c.args.tube.0 in
-    posted lent (m1c r k v) _ c.bare-m.ensures tt c.post.ensures ∙ sent lent (c1c r k v) (m1c r k v) refl c.requires.tube_value
+    let a = c.args in memory a.house.now a.board.now a.cells.now a.heard.now in
+    let r = c.args.bid.row.0 in
+    let k = c.args.bid.ballot.0 in
+    let v = c.args.bid.tube.0 in
+    posted lent (m1c r k v) _ c.offer.ensures.value tt c.post.ensures ∙ sent lent (c1c r k v) (m1c r k v) refl c.requires.tube_value

@@ -13,7 +13,7 @@ use Rattle.write.proofs.act.act_hear.Goals as goal
 pub set_heard-requires : goal.set_heard-requires
 set_heard-requires c =
     let lent : Memory =
-    let a = c.args in memory a.h a.board.now a.cells.now a.heard.now in
+    let a = c.args in memory a.house.now a.board.now a.cells.now a.heard.now in
     let p = passed lent (hear c.args.node.0 c.args.number) c.requires.whole.typed c.requires.number_value in
     let r = ready lent (hear c.args.node.0 c.args.number) p in
     record { node_bound = omega (arith, r.0, (bounds lent c.requires.whole).nodes); k_bound = r.1; node_in_bounds = omega (arith, r.0, p.size.heard) }
@@ -22,6 +22,6 @@ pub returns : goal.returns
 unfolding write
 returns c =
     let lent : Memory =
-    let a = c.args in memory a.h a.board.now a.cells.now a.heard.now in
+    let a = c.args in memory a.house.now a.board.now a.cells.now a.heard.now in
     let a = c.args in
-    ap (λ (t : List ℕ). memory a.h a.board.now a.cells.now t) c.set_heard.ensures ∙ sym (done lent (hear a.node.0 a.number) c.requires.number_value)
+    ap (λ (t : List ℕ). memory a.house.now a.board.now a.cells.now t) c.set_heard.ensures ∙ sym (done lent (hear a.node.0 a.number) c.requires.number_value)

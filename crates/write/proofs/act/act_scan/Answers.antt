@@ -11,31 +11,31 @@ use Rattle.write.proofs.act.act_scan.Goals as goal
 pub tube_of-t-requires : goal.tube_of-t-requires
 tube_of-t-requires c =
     let lent : Memory =
-    let a = c.args in memory a.h a.board.now a.cells.now a.heard.now in
+    let a = c.args in memory a.house.now a.board.now a.cells.now a.heard.now in
     (bounds lent c.requires.whole).tubes
 
-pub returns-then-t-h : goal.returns-then-t-h
-returns-then-t-h c =
+pub returns-then-known : goal.returns-then-known
+returns-then-known c =
     let lent : Memory =
-    let a = c.args in memory a.h a.board.now a.cells.now a.heard.now in
+    let a = c.args in memory a.house.now a.board.now a.cells.now a.heard.now in
     let x = c.args.station in
     let y = c.args.serial in
-    old_after lent x y c.requires.serial_value (scan_old lent x y c.tube_of-t.result c.tube_of-t.ensures c.if-t-h.true)
+    old_after lent x y c.requires.serial_value (scan_old lent x y c.tube_of-t.result c.tube_of-t.ensures c.if-known.true)
 
-pub with_scan-requires : goal.with_scan-requires
-with_scan-requires c =
+pub enter-requires : goal.enter-requires
+enter-requires c =
     let lent : Memory =
-    let a = c.args in memory a.h a.board.now a.cells.now a.heard.now in
+    let a = c.args in memory a.house.now a.board.now a.cells.now a.heard.now in
     let x = c.args.station in
     let y = c.args.serial in
-    ready lent (scan x y) (passed lent (scan x y) c.requires.whole.typed c.requires.serial_value) (scan_new lent x y c.tube_of-t.result c.tube_of-t.ensures c.if-t-h.false)
+    ready lent (scan x y) (passed lent (scan x y) c.requires.whole.typed c.requires.serial_value) (scan_new lent x y c.tube_of-t.result c.tube_of-t.ensures c.if-known.false)
 
 pub returns : goal.returns
 returns c =
     let lent : Memory =
-    let a = c.args in memory a.h a.board.now a.cells.now a.heard.now in
+    let a = c.args in memory a.house.now a.board.now a.cells.now a.heard.now in
     let a = c.args in
     let x = a.station in
     let y = a.serial in
-    ap (λ (h : House). memory h a.board.now a.cells.now a.heard.now) c.with_scan.ensures
-    ∙ new_after lent x y c.requires.serial_value (scan_new lent x y c.tube_of-t.result c.tube_of-t.ensures c.if-t-h.false)
+    ap (λ (h : House). memory h a.board.now a.cells.now a.heard.now) c.enter.ensures
+    ∙ new_after lent x y c.requires.serial_value (scan_new lent x y c.tube_of-t.result c.tube_of-t.ensures c.if-known.false)
