@@ -202,11 +202,7 @@ pub fn is_1b_at(board: &[u8], n: usize, k: usize) -> bool
 // Whether a message is a vote of this kind (4 a 2av, 5 a 2b) for this row, ballot and tube, by its own node. The kind stays a number here and in the
 // next two: docs/SLIPS.md names `is_vote`, which takes any from 4 on, and a `Kind` would ask more.
 #[tactic(auto, using(crate::proofs::Means::vote_own))]
-pub fn is_vote(
-    m: Message,
-    kind: u8,
-    bid: Bid,
-) -> bool
+pub fn is_vote(m: Message, kind: u8, bid: Bid) -> bool
     requires { 4 ≤ kind }
     ensures { result ≡ is_vote kind bid.row.0 bid.ballot.0 bid.tube.0 m.node (meaning m) }
 {
@@ -217,12 +213,7 @@ pub fn is_vote(
 }
 
 // The set with the voter, if the message is such a vote.
-pub fn with_voter(
-    set: u8,
-    m: Message,
-    kind: u8,
-    bid: Bid,
-) -> u8
+pub fn with_voter(set: u8, m: Message, kind: u8, bid: Bid) -> u8
     requires { 4 ≤ kind }
     ensures { (a : ℕ) → a < 8 → bit result a ≡ bit set a || is_vote kind bid.row.0 bid.ballot.0 bid.tube.0 a (meaning m) }
 {
@@ -234,12 +225,7 @@ pub fn with_voter(
 }
 
 // The nodes that have a message of this kind (4 a 2av, 5 a 2b) for this row, ballot and tube on the board.
-pub fn votes(
-    board: &[u8],
-    n: usize,
-    kind: u8,
-    bid: Bid,
-) -> u8
+pub fn votes(board: &[u8], n: usize, kind: u8, bid: Bid) -> u8
     requires n_bound { n ≤ 1024 }
     requires n_in_bounds { 40 * n ≤ length board.now }
     requires le_kind { 4 ≤ kind }

@@ -35,7 +35,13 @@ pub fn begin(m: Lent, row: u32, node: u32, ballot: u32, tube: u32) -> Result<(No
     Ok((n, bid))
 }
 
-pub fn judge_2b(m: Lent, row: u32, node: u32, ballot: u32, tube: u32) -> Result<(Node, Bid), Refusal>
+pub fn judge_2b(
+    m: Lent,
+    row: u32,
+    node: u32,
+    ballot: u32,
+    tube: u32,
+) -> Result<(Node, Bid), Refusal>
     requires { Whole (lent m) }
     ensures number { number_in result ≡ verdict (lent m.entry) (c2b row node ballot tube) }
     ensures narrow { IfOk result (Cast row node ballot tube) }
@@ -50,7 +56,13 @@ pub fn judge_2b(m: Lent, row: u32, node: u32, ballot: u32, tube: u32) -> Result<
     Ok((n, bid))
 }
 
-pub fn judge_2av(m: Lent, row: u32, node: u32, ballot: u32, tube: u32) -> Result<(Node, Bid), Refusal>
+pub fn judge_2av(
+    m: Lent,
+    row: u32,
+    node: u32,
+    ballot: u32,
+    tube: u32,
+) -> Result<(Node, Bid), Refusal>
     requires { Whole (lent m) }
     ensures number { number_in result ≡ verdict (lent m.entry) (c2av row node ballot tube) }
     ensures narrow { IfOk result (Cast row node ballot tube) }
@@ -77,7 +89,14 @@ pub fn judge_2av(m: Lent, row: u32, node: u32, ballot: u32, tube: u32) -> Result
 }
 
 // max_bal and max_vbal become the ballot, max_vval the tube. This and the next differ in what they do to the cell, and share the rest by `post` and `set_cell`.
-pub fn act_2b(house: &mut House, board: &mut [u8], cells: &mut [u8], heard: &[u8], node: Node, bid: Bid)
+pub fn act_2b(
+    house: &mut House,
+    board: &mut [u8],
+    cells: &mut [u8],
+    heard: &[u8],
+    node: Node,
+    bid: Bid,
+)
     requires whole { Whole (memory house.old board.old cells.old heard.now) }
     requires tube_value { reply (memory house.old board.old cells.old heard.now) (c2b bid.row.0 node.0 bid.ballot.0 bid.tube.0) ≡ 0 }
     ensures { memory house.new board.new cells.new heard.now ≡ after (memory house.old board.old cells.old heard.now) (c2b bid.row.0 node.0 bid.ballot.0 bid.tube.0) }
@@ -92,7 +111,14 @@ pub fn act_2b(house: &mut House, board: &mut [u8], cells: &mut [u8], heard: &[u8
 }
 
 // max_bal becomes the ballot; pairs for this tube are removed, the rest close up, and (tube, ballot) is put last.
-pub fn act_2av(house: &mut House, board: &mut [u8], cells: &mut [u8], heard: &[u8], node: Node, bid: Bid)
+pub fn act_2av(
+    house: &mut House,
+    board: &mut [u8],
+    cells: &mut [u8],
+    heard: &[u8],
+    node: Node,
+    bid: Bid,
+)
     requires whole { Whole (memory house.old board.old cells.old heard.now) }
     requires tube_value { reply (memory house.old board.old cells.old heard.now) (c2av bid.row.0 node.0 bid.ballot.0 bid.tube.0) ≡ 0 }
     ensures { memory house.new board.new cells.new heard.now ≡ after (memory house.old board.old cells.old heard.now) (c2av bid.row.0 node.0 bid.ballot.0 bid.tube.0) }

@@ -1,5 +1,5 @@
 -- Asking a row: what its outcome is told as, where it is a row of the room.
-use Rattle.std.proofs.Common.{refl, sym, ◌∙◌, arith}
+use Rattle.std.proofs.Common.{refl, sym, ◌∙◌}
 use Rattle.rules.specs.Lent.{lent, room_of}
 use Rattle.rules.specs.Steps.{ask}
 use Rattle.tell.specs.Chosen.{outcome_of}
@@ -24,7 +24,7 @@ returns c =
     let m = lent a.m in
     record {
       answer = c.told_as.ensures
-        ∙ told-inside (room_of m.house) _ a.row (sym c.has_row.ensures.value ∙ c.if-not-has_row.false) (outcome_of c.row_outcome.result) (c.row_outcome.ensures m.cells m.heard)
-        ∙ sym (past-answer m (ask a.row) c.requires);
+          ∙ told-inside (room_of m.house) _ a.row (sym c.has_row.ensures.value ∙ c.if-not-has_row.false) (outcome_of c.row_outcome.result) (c.row_outcome.ensures m.cells m.heard)
+          ∙ sym (past-answer m (ask a.row) c.requires);
       memory = sym (unmoved m (ask a.row) refl);
     }
