@@ -1,12 +1,12 @@
 -- A 2av and a 2b of given numbers: what each test that the judges make answers, by the numbers that they narrowed.
-use Rattle.std.proofs.Common.{◌≡◌, Bool, true, false, ◌||◌, refl, ap, sym, ◌∙◌, arith, List, [], ◌∷◌, ℕ, ◌≤◌, ◌<◌, ltb, length}
+use Rattle.std.proofs.Common.{◌≡◌, Bool, ◌||◌, refl, ap, sym, ◌∙◌, arith, List, [], ◌∷◌, ℕ, ◌≤◌, ltb, length}
 use Rattle.std.proofs.Common.{Result}
 use Rattle.std.specs.Result.{IsErr, IsErrAnd}
 use Rattle.std.proofs.lemmas.Result.{err_from_is_err_and}
 use Rattle.rules.specs.Tests.{all, first}
-use Rattle.rules.specs.Words.{Pair, Room, m1c, m2av, m2b}
-use Rattle.rules.specs.Lent.{Memory, memory, meaning, stored, line, pairs_of, cell_at, place, board_of, room_of, read}
-use Rattle.rules.specs.Steps.{c2av, c2b, has, fits, without, known, relayed}
+use Rattle.rules.specs.Words.{Pair, m1c, m2av, m2b}
+use Rattle.rules.specs.Lent.{Memory, meaning, stored, line, pairs_of, cell_at, place, board_of, room_of, read}
+use Rattle.rules.specs.Steps.{c2av, c2b, has, without, known, relayed}
 use Rattle.rules.specs.declared.Bid.{Bid}
 use Rattle.rules.specs.declared.Cell as cell_as_stored
 use Rattle.rules.specs.declared.Message.{Message}

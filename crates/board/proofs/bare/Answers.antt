@@ -1,5 +1,4 @@
 -- A vote is its meaning's own.
-use Rattle.std.proofs.Common.{rules}
 use Rattle.board.proofs.Bytes.{own_vote}
 use Rattle.board.proofs.bare.Goals as goal
 

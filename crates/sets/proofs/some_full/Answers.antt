@@ -1,6 +1,6 @@
 -- The search for a full set: no set passed is full, and of the set at hand no node passed is lacking.
 use Rattle.std.proofs.Common.{◌≡◌, not, ◌&&◌, get_or, length, ap, sym, ◌∙◌, arith}
-use Rattle.rules.specs.Tests.{any, all_in, bit}
+use Rattle.rules.specs.Tests.{all_in, bit}
 use Rattle.rules.proofs.Scan.{below_more, below_here, in_none}
 use Rattle.sets.proofs.Full.{any_items}
 use Rattle.sets.proofs.some_full.Goals as goal

@@ -1,5 +1,5 @@
 -- Asking a row: what its outcome is told as, where it is a row of the room.
-use Rattle.std.proofs.Common.{refl, sym, ◌∙◌, arith}
+use Rattle.std.proofs.Common.{refl, sym, ◌∙◌}
 use Rattle.rules.specs.Lent.{lent, room_of}
 use Rattle.rules.specs.Steps.{ask}
 use Rattle.tell.specs.Chosen.{outcome_of}

@@ -1,5 +1,5 @@
 -- Hearing: an existing node, a number on the board, and a 1b there.
-use Rattle.std.proofs.Common.{true, false, refl, sym, ap, ◌∙◌, arith, ℕ}
+use Rattle.std.proofs.Common.{true, false, refl, sym, ap, ◌∙◌, arith}
 use Rattle.rules.specs.Lent.{lent, read, is_1b_at}
 use Rattle.judge.proofs.Past.{plain, hear_says}
 use Rattle.judge.proofs.Says.{says_hear}

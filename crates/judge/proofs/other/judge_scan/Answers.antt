@@ -1,9 +1,9 @@
 -- A scan: a station's number, and a tube for it.
-use Rattle.std.proofs.Common.{true, false, refl, ap, sym, ◌∙◌, arith, ℕ}
+use Rattle.std.proofs.Common.{true, false, refl, ap, sym, ◌∙◌, ℕ}
 use borrow.Author.Tests.{le-leb, lt-leb}
 use lib.Dec.{leb}
 use Rattle.rules.specs.Lent.{lent}
-use Rattle.judge.proofs.Past.{bounds, scan_says}
+use Rattle.judge.proofs.Past.{bounds}
 use Rattle.judge.proofs.Says.{says_scan}
 use Rattle.judge.proofs.other.judge_scan.Goals as goal
 
