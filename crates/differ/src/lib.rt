@@ -96,7 +96,7 @@ pub fn settled(board: &[u8], k: usize, at: usize) -> bool
     message_new(board, k)
 }
 
-// No two of the first n messages are equal.
+// No two of the first n messages are equal. Area and count side by side, as `Plain` and `board_of` take them.
 pub fn messages_differ(board: &[u8], n: usize) -> bool
     requires { Plain board.now n }
     ensures { result ≡ distinct same_msg (board_of board.now n) }

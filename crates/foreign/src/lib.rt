@@ -68,7 +68,7 @@ pub fn judge_foreign(m: Lent, post: Post, pairs: [u32; 32]) -> Result<Message, R
     Ok(x)
 }
 
-// The message of an accepted post is posted, and its node has a mark from then on.
+// The message of an accepted post is posted, and its node has a mark from then on. The areas that it leaves are there for the contract.
 pub fn act_foreign(house: &mut House, board: &mut [u8], cells: &[u8], heard: &[u8], m: Message)
     requires whole { Whole (memory house.old board.old cells.now heard.now) }
     requires accepted { Accepted (memory house.old board.old cells.now heard.now) m }

@@ -25,6 +25,7 @@ pub fn height_in(mbal: u32) -> bool
     mbal == 255 || mbal < 16
 }
 
+// The array and the count are the step's own, as a caller hands them over.
 // The pairs as bytes, where they are sixteen at most, within limits and ascending, and every unused one is 0.
 #[tactic(auto, using(crate::proofs::Bytes::not_bytes, crate::proofs::Bytes::each_byte, crate::proofs::Bytes::fit_whole, pairs::proofs::Arrays::over))]
 pub fn packed(pairs: [u32; 32], count: usize) -> Option<[u8; 32]>

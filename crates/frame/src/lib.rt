@@ -49,7 +49,8 @@ pub enum Asked {
     Book,
 }
 
-// One call on the memory that a frame lends; what it is answered, in numbers.
+// One call on the memory that a frame lends; what it is answered, in numbers. Each area is a parameter of its own, lent by `&mut` since some call writes it; one match
+// on what is asked, since each call writes areas of its own.
 pub fn serve(
     house: &mut House,
     board: &mut [u8],

@@ -8,7 +8,7 @@ use image::numbers::{write_u8, write_u32};
 use named::Answer;
 use rules::House;
 
-// The answer's number and values, and the house record behind them.
+// The answer's number and values, and the house record behind them, by value as `write_house` takes it.
 pub fn reply(answer: Answer, house: House, out: &mut [u8])
     requires { 472 ≤ length out.old }
     ensures { out.new ≡ patch out.old 0 (reply_of (told answer) house) }

@@ -15,7 +15,7 @@ pub fn with_node(marks: u8, node: Node) -> u8
     marks | (1 << node.0)
 }
 
-// One node's mark is set, where the record stands.
+// One node's mark is set, where the record stands. Its bound is a clause: docs/DECISIONS.md names `mark`, and a `Node` that knows it would ask more of its callers.
 pub fn mark(h: &mut House, node: Node)
     requires { node.0 < 8 }
     ensures { h.new ≡ marked h.old node.0 }

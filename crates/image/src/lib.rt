@@ -46,7 +46,7 @@ fn write_counts(h: House, out: &mut [u8])
     numbers::write_u8(out, 6, h.backers);
 }
 
-// The house record into the first bytes; the others stay.
+// The house record into the first bytes; the others stay. By value: of a value the check knows how long its arrays are, of one behind a reference it does not.
 pub fn write_house(h: House, out: &mut [u8])
     requires { 459 ≤ length out.old }
     ensures { out.new ≡ patch out.old 0 (image h) }

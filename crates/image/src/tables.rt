@@ -23,7 +23,7 @@ pub fn write_sets(out: &mut [u8], at: usize, sets: [u8; 64])
     out[at..at + 64].copy_from_slice(&sets);
 }
 
-// The stations of the sixty-four scans of an image.
+// The stations of the sixty-four scans of an image. This and the next differ in the number that they read: one for both would take a closure for one line.
 pub fn read_stations(s: &[u8]) -> [u8; 64]
     requires { 456 ≤ length s.now }
     ensures { result ≡ stations_at (drop 136 s.now) 64 }

@@ -10,7 +10,7 @@ use rules::{Ballot, Cell, House, Kind, Message, Node, Row};
 pub fn promise(row: Row, ballot: Ballot, node: Node, c: Cell) -> Message
     ensures { result ≡ record { kind = 2; row = row.0; bal = ballot.0; node = node.0; tube = 0; mbal = c.maxvbal; mval = c.maxvval; count = c.count; pairs = c.pairs } }
 {
-    let pairs = c.pairs;
+    let pairs = c.pairs; // the check takes an array's field into a literal by way of a variable
     Message {
         kind: Kind::OneB.into(),
         row: row.0,

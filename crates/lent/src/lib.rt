@@ -9,7 +9,7 @@ ghost use Rattle.step.specs.Given.{post_of};
 use rules::{House, Lent, Refusal, Reply};
 use step::Post;
 
-// The public call: the post is tested where all is lent, and an accepted one is put on the board and marks its node.
+// The public call: the post is tested where all is lent, and an accepted one is put on the board and marks its node. Each area is a parameter of its own: what is written is lent by `&mut`, and the rest cannot change.
 #[tactic(auto, using(judge::proofs::Call::past, judge::proofs::Call::accepted, judge::proofs::Call::acted), unfolding(rules::specs::Replies::tell))]
 pub fn post_in_place(
     house: &mut House,

@@ -23,7 +23,7 @@ pub struct Plan<'a> {
     pub weaks: &'a [u32],
 }
 
-// Opens a room in lent memory; a refusal changes nothing.
+// Opens a room in lent memory; a refusal changes nothing. Each area is a parameter of its own: what is written is lent by `&mut`, and the rest cannot change.
 pub fn open(
     house: &mut House,
     board: &[u8],

@@ -25,7 +25,7 @@ pub enum Due {
     Nothing, // the sheet has ended
 }
 
-// The sets of one list.
+// The sets of one list, in fixed memory.
 #[derive(Clone, Copy)]
 pub struct Listed {
     sets: [u32; 65],

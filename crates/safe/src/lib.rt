@@ -139,7 +139,7 @@ pub fn heard_more(
     told_more(t, board::msg_at(board, k), bid)
 }
 
-// All that a node has heard of the first n messages: one pass.
+// All that a node has heard of the first n messages: one pass. Area and count side by side, as `board_of` takes them.
 pub fn gathered(board: &[u8], heard: &[u8], n: usize, node: rules::Node, bid: rules::Bid) -> Told
     requires node_bound { (node.0 < 8) × (n ≤ 1024) }
     requires n_in_bounds { 40 * n ≤ length board.now }
@@ -157,7 +157,8 @@ pub fn gathered(board: &[u8], heard: &[u8], n: usize, node: rules::Node, bid: ru
     t
 }
 
-// (ii) for one c: a full quorum of low ones, and a full weak set of those that show the tube.
+// (ii) for one c: a full quorum of low ones, and a full weak set of those that show the tube. The bounds stand here and below, and not in a type: `known_safe`
+// has them from `Ready`, and a house record keeps no bound of its own.
 pub fn safe_at(h: &rules::House, t: Told, c: u8) -> bool
     requires nodes_bound { (h.now.nodes ≤ 8) × ((h.now.listed ≤ 64) × (h.now.backers ≤ 64)) }
     requires c_bound { c < 16 }

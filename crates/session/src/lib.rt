@@ -32,7 +32,8 @@ pub struct Session {
     pub held: u8,
 }
 
-// The line that begins the steps: the opening, and then the step, if the room opened. Tells where the print ends.
+// The line that begins the steps: the opening, and then the step, if the room opened. Tells where the print ends. Here and below each area is a
+// parameter of its own, lent by `&mut`; docs/BELIEVE.md names `take_byte` and `finish`, whose buffers may be longer than they ask.
 fn begin_steps(
     heads: &mut Heads,
     house: &mut House,

@@ -60,7 +60,8 @@ pub fn lengths_ok(
 
 // ---- the tables
 
-// How many of the room's nodes a set names.
+// How many of the room's nodes a set names. Its bound on the nodes stands in each contract here: docs/SLIPS.md names `set_passes`, and a type that knows it would ask
+// more of its callers. `counts` below is one definition, said once.
 pub fn members(nodes: u8, set: u8) -> u32
     requires { nodes ≤ 8 }
     ensures { result ≡ count (bit set) nodes }

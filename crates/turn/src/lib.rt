@@ -10,7 +10,7 @@ use lines::Line;
 use named::Answer;
 use rules::{House, Refusal};
 
-// "A bad step line prints `answer=19` and the next is read." Tells where the print ends.
+// "A bad step line prints `answer=19` and the next is read." Tells where the print ends. Each area is a parameter of its own: what is written is lent by `&mut`, and the rest cannot change.
 pub fn take_step(
     house: &mut House,
     board: &mut [u8],

@@ -72,7 +72,7 @@ pub fn judge_2av(
         return Err(Refusal::NotAsked);
     }
     let c = node::own_cell(m, bid.row, n);
-    let pairs = c.pairs;
+    let pairs = c.pairs; // the check takes an array's field by way of a variable, here and below
     if !pairs::all_below(pairs, c.count, bid.ballot) {
         return Err(Refusal::RelayedAlready);
     }
