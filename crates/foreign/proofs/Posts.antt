@@ -4,10 +4,11 @@ use Rattle.rules.specs.Tests.{first, all}
 use Rattle.rules.specs.Words.{height_of, Room, Msg, m1a, m1b, m1c, m2av, m2b}
 use Rattle.rules.specs.Lent.{Memory, memory, pairs_of, stored, meaning, room_of, read, marked, limits, scanned}
 use Rattle.rules.specs.Steps.{Post, p1b, p2av, p2b, other, foreign, fits, posted, poster, write}
-use Rattle.rules.specs.Replies.{post_in, fields, tubes, after}
+use Rattle.rules.specs.Replies.{post_in, fields, tubes, reply, after}
 use Rattle.rules.specs.declared.House.{House}
 use Rattle.rules.specs.declared.Message.{Message}
 use Rattle.rules.proofs.Sound.{and_l, and_r}
+use Rattle.rules.proofs.Scan.{holds}
 use Rattle.rules.proofs.Codec.{Small, pairs_back}
 use Rattle.board.specs.Asked.{Own, Postable, Posted}
 use Rattle.board.proofs.Bytes.{own-stored, means_stored}
@@ -22,7 +23,6 @@ use Rattle.judge.specs.Judged.{verdict}
 use Rattle.judge.proofs.Past.{bounds}
 use Rattle.write.proofs.Acts.{postable}
 use Rattle.write.proofs.Acts as acts
-use Rattle.foreign.specs.Accepted.{Puts}
 
 pub says_foreign : (m : Memory) (p : Post) (x y z : Bool) → post_in (room_of m.house) p ≡ x → scanned m.house.tubes (posted p) ≡ y
     → fits (room_of m.house) (read m) (posted p) ≡ z → first ((x, 6) ∷ (y, 7) ∷ (z, 15) ∷ []) ≡ verdict m (foreign p)
@@ -91,25 +91,31 @@ poster-stored (p2av r b n v) = refl
 poster-stored (p2b r b n v) = refl
 poster-stored other = refl
 
-module _ (m : Memory) (w : Whole m) (p : Post) {k : Message} (a : Puts m p k) where
+-- it passed the tests, so it has a message
+module _ (m : Memory) (w : Whole m) (p : Post) (y : reply m (foreign p) ≡ 0) where
   past : Passed m (foreign p)
-  past = passed m (foreign p) w.typed a.0
+  past = passed m (foreign p) w.typed y
+
+  pub inside : post_in (room_of m.house) p ≡ true
+  unfolding fields
+  inside = holds _ past.fields
 
   sends : Sendable m (posted p)
   sends = ready m (foreign p) past
 
-  pub may_post : Postable m.house m.board k
-  may_post = postable m (posted p) k a.1 past.size past.form sends
+  module _ {k : Message} (e : k ≡ stored (posted p)) where
+    pub may_post : Postable m.house m.board k
+    may_post = postable m (posted p) k e past.size past.form sends
 
-  -- its node has a bit
-  pub low : k.node < 8
-  unfolding fields
-  low = omega (arith, ap (λ (t : Message). t.node) a.1 ∙ poster-stored p, poster_in (room_of m.house) p past.fields, (bounds m w).nodes)
+    -- its node has a bit
+    pub low : k.node < 8
+    unfolding fields
+    low = omega (arith, ap (λ (t : Message). t.node) e ∙ poster-stored p, poster_in (room_of m.house) p past.fields, (bounds m w).nodes)
 
-  -- the message posted and its node marked is what the rules leave
-  pub left : {h h' : House} {s : List ℕ} → Posted m.house m.board k h s → h' ≡ marked h k.node → memory h' s m.cells m.heard ≡ after m (foreign p)
-  unfolding write
-  left {h} {h'} {s} f g =
-      ap (λ (x : House). memory x s m.cells m.heard) (g ∙ ap (marked h) (ap (λ (t : Message). t.node) a.1 ∙ poster-stored p))
-      ∙ ap (λ (w : Memory). memory (marked w.house (poster p)) w.board w.cells w.heard) (acts.posted m (posted p) k a.1 sends.small f)
-      ∙ sym (done m (foreign p) a.0)
+    -- the message posted and its node marked is what the rules leave
+    pub left : {h h' : House} {s : List ℕ} → Posted m.house m.board k h s → h' ≡ marked h k.node → memory h' s m.cells m.heard ≡ after m (foreign p)
+    unfolding write
+    left {h} {h'} {s} f g =
+        ap (λ (x : House). memory x s m.cells m.heard) (g ∙ ap (marked h) (ap (λ (t : Message). t.node) e ∙ poster-stored p))
+        ∙ ap (λ (w : Memory). memory (marked w.house (poster p)) w.board w.cells w.heard) (acts.posted m (posted p) k e sends.small f)
+        ∙ sym (done m (foreign p) y)

@@ -3,24 +3,23 @@
 
 pub mod promise; // promise.rt: a foreign 1b and its pairs
 
-ghost use Rattle.std.specs.Prelude.{◌≡◌, [], ◌≤◌, IfOk};
+ghost use Rattle.std.specs.Prelude.{◌≡◌, [], ◌≤◌};
 ghost use Rattle.rules.specs.Words.{m2av};
 ghost use Rattle.rules.specs.Lent.{memory, lent, room_of, meaning, kind_byte, line, stored, limits, scanned};
 ghost use Rattle.rules.specs.Steps as steps;
 ghost use Rattle.rules.specs.Steps.{foreign, posted};
-ghost use Rattle.rules.specs.Replies.{post_in, after, number_in};
+ghost use Rattle.rules.specs.Replies.{post_in, reply, after, number_in};
 ghost use Rattle.kept.specs.Kept.{Whole};
 ghost use Rattle.board.specs.Asked.{Own};
 ghost use Rattle.judge.specs.Judged.{verdict};
 ghost use Rattle.judge.specs.Narrow.{Tested};
 ghost use Rattle.step.specs.Given.{post_of};
-ghost use Rattle.foreign.specs.Accepted.{Puts, Accepted};
 
 use rules::{House, Kind, Lent, Message, Node, Refusal};
 use step::{Post, Vote};
 
 // A 2av or a 2b as it is stored, where every field is within its limits.
-pub fn message_vote(h: &House, kind: Kind, v: Vote) -> Option<Message>
+fn message_vote(h: &House, kind: Kind, v: Vote) -> Option<Message>
     ensures { Tested (limits (room_of h.now) (m2av v.row v.ballot v.node v.tube)) (λ x. x ≡ line (kind_byte kind) v.row v.ballot v.node v.tube 0 0 []) result }
 {
     let (node, bid) = judge::limits::vote_in(h, v.row, v.ballot, v.node, v.tube)?;
@@ -51,10 +50,9 @@ fn tubes_scanned(h: &House, m: Message) -> bool
         && pairs::each(m.pairs, m.count, pairs::Ask::Scanned(h.tubes))
 }
 
-pub fn judge_foreign(m: Lent, post: Post, pairs: [u32; 32]) -> Result<Message, Refusal>
+pub fn judge_foreign(m: Lent, post: Post, pairs: [u32; 32]) -> Result<(), Refusal>
     requires { Whole (lent m) }
-    ensures number { number_in result ≡ verdict (lent m.entry) (foreign (post_of post pairs)) }
-    ensures narrow { IfOk result (λ x. x ≡ stored (posted (post_of post pairs))) }
+    ensures { number_in result ≡ verdict (lent m.entry) (foreign (post_of post pairs)) }
 {
     let Some(x) = message(m.house, post, pairs) else {
         return Err(Refusal::OutsideLimits);
@@ -65,15 +63,25 @@ pub fn judge_foreign(m: Lent, post: Post, pairs: [u32; 32]) -> Result<Message, R
     if !judge::forms::fits(m.house, m.board, x) {
         return Err(Refusal::BoardFull);
     }
-    Ok(x)
+    Ok(())
 }
 
-// The message of an accepted post is posted, and its node has a mark from then on. The areas that it leaves are there for the contract.
-pub fn act_foreign(house: &mut House, board: &mut [u8], cells: &[u8], heard: &[u8], m: Message)
+// The message is posted, and its node has a mark from then on. An accepted post has a message. The areas that it leaves are there for the contract.
+pub fn act_foreign(
+    house: &mut House,
+    board: &mut [u8],
+    cells: &[u8],
+    heard: &[u8],
+    post: Post,
+    pairs: [u32; 32],
+)
     requires whole { Whole (memory house.old board.old cells.now heard.now) }
-    requires accepted { Accepted (memory house.old board.old cells.now heard.now) m }
-    ensures { (p : steps.Post) → Puts (memory house.old board.old cells.now heard.now) p m → memory house.new board.new cells.now heard.now ≡ after (memory house.old board.old cells.now heard.now) (foreign p) }
+    requires pairs_value { reply (memory house.old board.old cells.now heard.now) (foreign (post_of post pairs)) ≡ 0 }
+    ensures { memory house.new board.new cells.now heard.now ≡ after (memory house.old board.old cells.now heard.now) (foreign (post_of post pairs)) }
 {
+    let Some(m) = message(house, post, pairs) else {
+        unreachable!()
+    };
     board::post(house, board, m);
     house::mark(house, Node(m.node));
 }

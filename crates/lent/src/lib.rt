@@ -28,7 +28,7 @@ pub fn post_in_place(
         heard,
     };
     form::gate(m)?;
-    let x = foreign::judge_foreign(m, post, pairs)?;
-    foreign::act_foreign(house, board, cells, heard, x);
+    foreign::judge_foreign(m, post, pairs)?;
+    foreign::act_foreign(house, board, cells, heard, post, pairs);
     Ok(Reply::Done)
 }
