@@ -12,6 +12,7 @@ use Rattle.rules.specs.Words.{height_of, m1b, Cell}
 use Rattle.rules.specs.Lent.{Memory, window, stored, flatten, cell_of, cell_at, encode, meaning_cell, stored_cell, place, room_of, read, plain_cell, good_cell, cell_form, cells_form}
 use Rattle.rules.specs.Steps.{told}
 use Rattle.rules.specs.declared.Cell as cell_as_stored
+use Rattle.rules.specs.declared.House.{House}
 use Rattle.rules.specs.declared.Message.{Message}
 use Rattle.rules.proofs.Sound.{and_l}
 use Rattle.rules.proofs.Codec.{Small, length-fit, At, in_at, place_in}
@@ -20,6 +21,7 @@ use Rattle.kept.proofs.Lists.{all-below}
 use Rattle.kept.proofs.Cells.{fine}
 use Rattle.kept.proofs.Sim.{Sized}
 use Rattle.kept.proofs.Ready.{Form, cell_good}
+use Rattle.judge.specs.Narrow.{Seated}
 use Rattle.judge.proofs.Past.{Bounds}
 
 -- a plain cell: its struct is that of what it means
@@ -38,6 +40,13 @@ told-stored : (c : cell_as_stored.Cell) (r n b : ℕ) → stored_cell (meaning_c
     → stored (m1b r b n (meaning_cell c).max_vbal (meaning_cell c).max_vval (meaning_cell c).pairs) ≡ promised r b n c
 unfolding stored
 told-stored c r n b e = λ i. record { kind = 2; row = r; bal = b; node = n; tube = 0; mbal = (e i).maxvbal; mval = c.maxvval; count = (e i).count; pairs = (e i).pairs }
+
+-- a row and a node of the house, as the contract and as the lemmas say it
+pub seated : (h : House) (r n : ℕ) → At (room_of h) r n → Seated h r n
+seated h r n p = (p.low, p.high, p.node)
+
+pub at_seat : (h : House) (r n : ℕ) → Seated h r n → At (room_of h) r n
+at_seat h r n p = record { low = p.0; high = p.1; node = p.2 }
 
 -- the place of a cell
 module _ (m : Memory) (r n : ℕ) (p : At (room_of m.house) r n) where

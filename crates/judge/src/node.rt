@@ -1,13 +1,12 @@
 // What is answered to a node's steps, by its cell.
 ghost use Rattle.std.specs.Prelude.{◌≡◌, leb, IfOk};
 ghost use Rattle.rules.specs.Words.{height_of};
-ghost use Rattle.rules.specs.Lent.{lent, place, cell_at, room_of};
+ghost use Rattle.rules.specs.Lent.{lent, place, cell_at};
 ghost use Rattle.rules.specs.Steps.{c1b};
 ghost use Rattle.rules.specs.Replies.{number_in};
-ghost use Rattle.rules.proofs.Codec.{At};
 ghost use Rattle.kept.specs.Kept.{Whole};
 ghost use Rattle.judge.specs.Judged.{verdict};
-ghost use Rattle.judge.specs.Narrow.{Seat};
+ghost use Rattle.judge.specs.Narrow.{Seat, Seated};
 
 use crate::{forms, limits};
 use rules::{Ballot, Cell, Lent, Node, Refusal, Row};
@@ -25,7 +24,7 @@ pub fn height_at_most(stored: u8, most: u8) -> bool
 // A node's cell in a row.
 pub fn own_cell(m: Lent, row: Row, node: Node) -> Cell
     requires whole { Whole (lent m) }
-    requires seat { At (room_of m.house.now) row.0 node.0 }
+    requires seat { Seated m.house.now row.0 node.0 }
     ensures { result ≡ cell_at m.entry.cells.now (place m.entry.house.now.rows row.0 node.0) }
 {
     cell::cell_at(m.cells, cell::place(m.house.rows, row, node))

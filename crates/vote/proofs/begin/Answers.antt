@@ -11,7 +11,7 @@ use Rattle.rules.proofs.Codec.{At}
 use Rattle.kept.specs.Kept.{Whole}
 use Rattle.kept.proofs.Ready.{form}
 use Rattle.judge.specs.Narrow.{Cast}
-use Rattle.judge.proofs.Cells.{height_reads}
+use Rattle.judge.proofs.Cells.{seated, height_reads}
 use Rattle.vote.specs.Begun.{begun}
 use Rattle.vote.proofs.Says.{says-begun, same_begun, same_six, same_seven, inside}
 use Rattle.vote.proofs.begin.Goals as goal
@@ -36,7 +36,7 @@ returns-then-not-on_intake-clause-number c =
     says-begun (lent c.args.m) c.args.row c.args.node c.args.ballot c.args.tube true false _ c.in-Some.ensures.0 (sym c.on_intake.ensures ∙ c.if-not-on_intake.true) refl
 
 pub own_cell-c-requires-clause-seat : goal.own_cell-c-requires-clause-seat
-own_cell-c-requires-clause-seat c = (within (lent c.args.m) c.in-Some.ensures.0 c.in-Some.ensures.1).0
+own_cell-c-requires-clause-seat c = seated (lent c.args.m).house _ _ (within (lent c.args.m) c.in-Some.ensures.0 c.in-Some.ensures.1).0
 
 pub overflow_add-bid : goal.overflow_add-bid
 overflow_add-bid c = omega (arith, within (lent c.args.m) c.in-Some.ensures.0 c.in-Some.ensures.1)

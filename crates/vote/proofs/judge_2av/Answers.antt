@@ -3,6 +3,7 @@ use Rattle.std.proofs.Common.{true, false, refl, ap, sym, ◌∙◌, ℕ, ltb}
 use borrow.Author.Tests.{lt-ltb, le-ltb}
 use Rattle.rules.specs.Lent.{lent}
 use Rattle.judge.proofs.Past.{plain}
+use Rattle.judge.proofs.Cells.{seated}
 use Rattle.vote.proofs.Exits.{exit_2av, seat, askable, own_few, tests_2av}
 use Rattle.vote.proofs.judge_2av.Goals as goal
 
@@ -16,7 +17,7 @@ pub returns-then-not-has_1c-clause-number : goal.returns-then-not-has_1c-clause-
 returns-then-not-has_1c-clause-number c = tests_2av (lent c.args.m) c.requires c.in_ok-n.ensures.number c.in_ok-n.ensures.narrow refl refl false _ _ _ _ (sym c.has_1c.ensures ∙ c.if-not-has_1c.true) refl refl refl refl
 
 pub own_cell-c-requires-clause-seat : goal.own_cell-c-requires-clause-seat
-own_cell-c-requires-clause-seat c = seat (lent c.args.m) c.requires c.in_ok-n.ensures.number c.in_ok-n.ensures.narrow
+own_cell-c-requires-clause-seat c = seated (lent c.args.m).house _ _ (seat (lent c.args.m) c.requires c.in_ok-n.ensures.number c.in_ok-n.ensures.narrow)
 
 pub all_below-requires : goal.all_below-requires
 all_below-requires c = own_few (lent c.args.m) c.requires c.in_ok-n.ensures.number c.in_ok-n.ensures.narrow c.own_cell-c.ensures

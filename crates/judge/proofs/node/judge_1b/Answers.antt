@@ -17,7 +17,7 @@ use Rattle.kept.proofs.Ready.{form}
 use Rattle.judge.specs.Judged.{verdict}
 use Rattle.judge.specs.Narrow.{Seat}
 use Rattle.judge.proofs.Past.{plain, fits_means, seat_in, promise-says}
-use Rattle.judge.proofs.Cells.{promised, height_reads, told_reads, told_small}
+use Rattle.judge.proofs.Cells.{seated, promised, height_reads, told_reads, told_small}
 use Rattle.judge.proofs.Says.{says_1b}
 use Rattle.judge.proofs.node.judge_1b.Goals as goal
 
@@ -45,7 +45,7 @@ pub returns-in_default-clause-number : goal.returns-in_default-clause-number
 returns-in_default-clause-number c = says_1b (lent c.args.m) c.args.row c.args.node c.args.ballot false _ _ _ c.in_default.ensures refl refl refl
 
 pub own_cell-c-requires : goal.own_cell-c-requires
-own_cell-c-requires c = record { whole = c.requires; seat = seat (lent c.args.m) c.requires c.in-Some.ensures.0 c.in-Some.ensures.1 }
+own_cell-c-requires c = record { whole = c.requires; seat = seated (lent c.args.m).house _ _ (seat (lent c.args.m) c.requires c.in-Some.ensures.0 c.in-Some.ensures.1) }
 
 pub returns-then-not-height_at_most-clause-number : goal.returns-then-not-height_at_most-clause-number
 returns-then-not-height_at_most-clause-number c =
