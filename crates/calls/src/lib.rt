@@ -26,6 +26,8 @@ pub fn settled()
     ensures book { BookSettled }
 {}
 
+// Here and in the other files each area is a parameter of its own: what a call writes is lent by `&mut`, and what is lent by `&` cannot change. The numbers are
+// parameters too: a struct of them would be made at each caller and taken apart here, a line more for each.
 #[tactic(auto, using(judge::proofs::Call::past, judge::proofs::Call::accepted, judge::proofs::Call::acted), unfolding(rules::specs::Replies::tell))]
 pub fn send_1a(
     house: &mut House,

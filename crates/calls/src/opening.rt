@@ -6,6 +6,7 @@ ghost use Rattle.open.specs.Room.{planned};
 use open::Plan;
 use rules::{House, Refusal, Reply};
 
+// The areas are parameters of their own, as in lib.rt.
 pub fn open(
     house: &mut House,
     board: &[u8],

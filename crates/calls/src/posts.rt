@@ -7,6 +7,7 @@ ghost use Rattle.step.specs.Given.{post_of};
 use rules::{House, Refusal, Reply};
 use step::Post;
 
+// The areas are parameters of their own, as in lib.rt.
 pub fn post_foreign(
     house: &mut House,
     board: &mut [u8],

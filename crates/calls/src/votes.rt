@@ -1,5 +1,5 @@
 // The calls 2av and 2b of a node. These two, and those of lib.rt, differ in the judge and the act that they name: one function over both would take two
-// closures to save two lines, and lend every area for change. The numbers are parameters of their own, as a caller in C has them.
+// closures to save two lines, and lend every area for change. The areas and the numbers are parameters of their own, as in lib.rt.
 ghost use Rattle.rules.specs.Lent.{memory};
 ghost use Rattle.rules.specs.Steps.{c2av, c2b};
 ghost use Rattle.rules.specs.Replies.{answer_of, Did};

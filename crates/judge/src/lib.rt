@@ -4,6 +4,6 @@
 
 pub mod limits; // limits.rt: numbers of any size against their limits
 pub mod forms; // forms.rt: a node's 1b as it is stored, and whether a message finds room on the board
-pub mod send; // send.rt: 1a, 1c and foreign posts
+pub mod send; // send.rt: 1a and 1c
 pub mod node; // node.rt: the steps of a node, by its cell
 pub mod other; // other.rt: a scan and what a node hears

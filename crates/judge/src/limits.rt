@@ -1,5 +1,5 @@
-// Numbers of any size against their limits: test 6, which gives them as the room's words, and test 7 for a single tube. The numbers are parameters of their own,
-// as the calls have them.
+// Numbers of any size against their limits: test 6, which gives them as the room's words, and test 7 for a single tube. The numbers are parameters of their own:
+// each function takes others of them, and a struct for each would say no more than its parameters.
 ghost use Rattle.std.specs.Prelude.{◌≡◌, ◌&&◌, ◌<◌, leb, ltb, IsTrue};
 ghost use Rattle.rules.specs.Words.{bal_in, tube_in, scan_in, m1a, m1c, m2av};
 ghost use Rattle.rules.specs.Lent.{room_of, row_in, limits};

@@ -1,4 +1,4 @@
-// A reply in the paper's numbers, and a refusal from its number.
+// A reply in the paper's numbers.
 #![tactic(auto)]
 
 ghost use Rattle.std.specs.Prelude.{◌≡◌};

@@ -136,6 +136,7 @@ pub fn headed(heads: &mut Heads, line: Line)
 }
 
 // Opens the room that the headings ask for, and tells the number that is printed; a refusal changes no memory and ends the sheet.
+// The areas are parameters of their own: it lends two of the four for change.
 pub fn open_room(
     heads: &mut Heads,
     house: &mut House,

@@ -40,6 +40,7 @@ pub fn misses(t: u8, b: u8, tube: u8, c: u8) -> bool
     t != tube || !reaches(c, b)
 }
 
+// Whether a pair is as asked. A match and no closure: `passes` of the definitions names what is asked, and a closure would say it a second time in a clause.
 pub fn pass(ask: Ask, t: u8, b: u8) -> bool
     ensures { result ≡ passes ask (t, b) }
 {

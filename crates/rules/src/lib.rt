@@ -212,6 +212,7 @@ impl TryFrom<u8> for Refusal {
     ghost try_from_gives = { Named };
 
     fn try_from(number: u8) -> Result<Refusal, Unnamed> {
+        // A match: a number turned into an enum has no other way in safe code.
         match number {
             1 => Ok(Refusal::CountOutside),
             2 => Ok(Refusal::AbsentNode),

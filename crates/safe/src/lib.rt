@@ -40,7 +40,7 @@ pub fn is_shown(m: rules::Message, c: u8, tube: u8) -> bool
     pairs::has_above(m.pairs, m.count.min(16), rules::Tube(tube), c)
 }
 
-// Whether a 1b passes, whatever its row, ballot and node.
+// Whether a 1b passes, whatever its row, ballot and node. A match and no closure: `says` of the definitions names what is asked.
 #[tactic(auto, using(crate::proofs::Tellers::none_height))]
 pub fn tells(m: rules::Message, ask: Ask) -> bool
     ensures { result ≡ says ask m }

@@ -41,7 +41,7 @@ pub fn counts_ok(h: &House) -> bool
     sizes & (lists & ((h.tubes <= 64) & (h.count <= h.capacity)))
 }
 
-// No lent area is too short for a room of these sizes.
+// No lent area is too short for a room of these sizes. No house record has them yet, so there is no `Lent` to take.
 pub fn lengths_ok(
     nodes: u8,
     rows: u8,
@@ -78,6 +78,7 @@ pub enum Asked {
     Strong,
 }
 
+// Whether a set is as asked. A match and no closure: `passes` of the definitions names what is asked, and a closure would say it a second time in a clause.
 #[tactic(auto, using(crate::proofs::Sets::common_count))]
 pub fn set_passes(nodes: u8, faulty: u8, asked: Asked, set: u8) -> bool
     requires { nodes ≤ 8 }
@@ -132,7 +133,7 @@ pub fn test_tables(h: &House) -> Result<(), Refusal>
 
 // ---- lists as opening is handed them
 
-// All sets of a list name present nodes.
+// All sets of a list name present nodes. A list has numbers of any size, a house record bytes: `all_pass` asks the same of those.
 pub fn sets_present(nodes: u8, sets: &[u32]) -> bool
     requires { nodes ≤ 8 }
     ensures { result ≡ all (λ q. ltb q (2 ^ nodes)) sets.now }

@@ -89,6 +89,7 @@ pub fn judge_2av(
 }
 
 // max_bal and max_vbal become the ballot, max_vval the tube. This and the next differ in what they do to the cell, and share the rest by `post` and `set_cell`.
+// One function over both would take a closure, and each cell as it is left has its own answer all the same. The areas are lent one by one: two for change, one not.
 pub fn act_2b(
     house: &mut House,
     board: &mut [u8],
