@@ -25,7 +25,7 @@ pub fn decode(s: &[u8]) -> Message
         mbal: s[5],
         mval: s[6],
         count: s[7],
-        pairs: cell::pairs_at(s, 8),
+        pairs: cell::bytes_at(s, 8),
     }
 }
 
@@ -52,7 +52,7 @@ pub fn put_msg(s: &mut [u8], m: Message)
     s[5] = m.mbal;
     s[6] = m.mval;
     s[7] = m.count;
-    cell::put_pairs(s, 8, m.pairs);
+    cell::put_bytes(s, 8, m.pairs);
 }
 
 // The part from 40 * n of the lent board is passed on to the message writer.

@@ -5,12 +5,12 @@ ghost use Rattle.std.specs.Prelude.{◌≡◌, ◌+◌, ◌*◌, ◌≤◌, ◌<
 ghost use Rattle.std.proofs.Math.Seq.{paste};
 ghost use Rattle.rules.specs.Lent.{cell_of, cell_at, encode, patch, place};
 
-// Thirty-two bytes from a place of a slice.
-pub fn pairs_at(s: &[u8], at: usize) -> [u8; 32]
-    requires { at + 32 ≤ length s.now }
-    ensures { result ≡ take 32 (drop at s.now) }
+// As many bytes as the array has, from a place of a slice.
+pub fn bytes_at<const N: usize>(s: &[u8], at: usize) -> [u8; N]
+    requires { at + N ≤ length s.now }
+    ensures { result ≡ take N (drop at s.now) }
 {
-    <[u8; 32]>::try_from(&s[at..at + 32]).unwrap()
+    <[u8; N]>::try_from(&s[at..at + N]).unwrap()
 }
 
 // A cell's part is handed to the reader.
@@ -23,7 +23,7 @@ pub fn decode(s: &[u8]) -> rules::Cell
         maxvbal: s[1],
         maxvval: s[2],
         count: s[3],
-        pairs: pairs_at(s, 4),
+        pairs: bytes_at(s, 4),
     }
 }
 
@@ -37,12 +37,12 @@ pub fn cell_at(cells: &[u8], k: usize) -> rules::Cell
     decode(&cells[a..a + 36])
 }
 
-// Thirty-two bytes into a place of a slice.
-pub fn put_pairs(s: &mut [u8], at: usize, p: [u8; 32])
-    requires { at + 32 ≤ length s.old }
-    ensures { s.new ≡ paste s.old at p 32 }
+// The bytes of an array into a place of a slice.
+pub fn put_bytes<const N: usize>(s: &mut [u8], at: usize, bytes: [u8; N])
+    requires { at + N ≤ length s.old }
+    ensures { s.new ≡ paste s.old at bytes.entry N }
 {
-    s[at..at + 32].copy_from_slice(&p);
+    s[at..at + N].copy_from_slice(&bytes);
 }
 
 // A cell into the first thirty-six bytes of a slice; the others stay.
@@ -54,7 +54,7 @@ pub fn put_cell(s: &mut [u8], c: rules::Cell)
     s[1] = c.maxvbal;
     s[2] = c.maxvval;
     s[3] = c.count;
-    put_pairs(s, 4, c.pairs);
+    put_bytes(s, 4, c.pairs);
 }
 
 // A cell into the place numbered k of the lent cells; all the others stay.

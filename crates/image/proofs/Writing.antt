@@ -5,7 +5,7 @@ use Prim.Native.Nat.{ℕ, zero, suc, ◌+◌, ◌*◌, ◌≤◌, ◌<◌}
 use native.Mathlib.Numerals.{add-one}
 use native.Mathlib.Omega.{arith}
 use lib.ListN.{length, take, drop, set, length-append, take-append-drop}
-use lib.Seq.{drop-drop, take_all, take_at, drop_at, length-take-le, take-suc-set, get_or-drop}
+use lib.Seq.{paste, drop-drop, take_all, take_at, drop_at, length-take-le, take-suc-set, get_or-drop}
 use Rattle.rules.specs.Lent.{patch}
 use Rattle.rules.specs.declared.House.{House}
 use Rattle.image.specs.Image.{scans, image, four_at}
@@ -13,6 +13,10 @@ use Rattle.image.specs.Image.{scans, image, four_at}
 -- nothing written
 pub none_yet : (s : List ℕ) (at : ℕ) → s ≡ patch s at []
 none_yet s at = sym (take-append-drop at s)
+
+-- a whole list pasted is a part written
+pub pasted : (s p : List ℕ) (at n : ℕ) → length p ≡ n → paste s at p n ≡ patch s at p
+pasted s p at n e = rw (take_all n p (omega (arith, e)), append_assoc (take at s) p (drop (at + n) s), drop-drop, e)
 
 -- a part behind a part
 pub behind : (s a b : List ℕ) (at n : ℕ) → at + length a ≡ n → n ≤ length s → patch (patch s at a) n b ≡ patch s at (a ++ b)

@@ -8,7 +8,7 @@ ghost use Rattle.image.specs.Image.{counts, image, house_at};
 use rules::House;
 
 pub mod numbers; // numbers.rt: numbers of one, two and four bytes
-mod tables; // tables.rt: the node sets and the scans
+mod tables; // tables.rt: the scans
 
 // The house record that stands at the front of some bytes.
 #[tactic(auto, unfolding(crate::specs::Image::house_at))]
@@ -22,9 +22,9 @@ pub fn read_house(s: &[u8]) -> House
         rows: s[2],
         capacity: numbers::read_u16(s, 3),
         listed: s[5],
-        quorums: tables::read_sets(s, 7),
+        quorums: cell::bytes_at(s, 7),
         backers: s[6],
-        weaks: tables::read_sets(s, 71),
+        weaks: cell::bytes_at(s, 71),
         tubes: s[135],
         stations: tables::read_stations(s),
         serials: tables::read_serials(s),
@@ -52,8 +52,8 @@ pub fn write_house(h: House, out: &mut [u8])
     ensures { out.new ≡ patch out.old 0 (image h) }
 {
     write_counts(h, out);
-    tables::write_sets(out, 7, h.quorums);
-    tables::write_sets(out, 71, h.weaks);
+    cell::put_bytes(out, 7, h.quorums);
+    cell::put_bytes(out, 71, h.weaks);
     numbers::write_u8(out, 135, h.tubes);
     tables::write_scans(out, h.stations, h.serials);
     numbers::write_u8(out, 456, h.marks);

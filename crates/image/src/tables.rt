@@ -1,27 +1,9 @@
-// The parts of a house image that repeat: sixty-four node sets, and sixty-four scans of a station and a serial.
-ghost use Rattle.std.specs.Prelude.{◌≡◌, ◌∷◌, ◌+◌, ◌≤◌, length, take, drop};
+// The scans of a house image: sixty-four of a station and a serial.
+ghost use Rattle.std.specs.Prelude.{◌≡◌, ◌∷◌, ◌+◌, ◌≤◌, length, drop};
 ghost use Rattle.rules.specs.Lent.{patch};
 ghost use Rattle.image.specs.Image.{four, scans, stations_at, serials_at};
 
 use crate::numbers;
-
-// Sixty-four bytes from a place.
-pub fn read_sets(s: &[u8], at: usize) -> [u8; 64]
-    requires { at + 64 ≤ length s.now }
-    ensures { result ≡ take 64 (drop at s.now) }
-{
-    let mut out = [0u8; 64];
-    out.copy_from_slice(&s[at..at + 64]);
-    out
-}
-
-// Sixty-four bytes into a place.
-pub fn write_sets(out: &mut [u8], at: usize, sets: [u8; 64])
-    requires { at + 64 ≤ length out.old }
-    ensures { out.new ≡ patch out.old at sets }
-{
-    out[at..at + 64].copy_from_slice(&sets);
-}
 
 // The stations of the sixty-four scans of an image. This and the next differ in the number that they read: one for both would take a closure for one line.
 pub fn read_stations(s: &[u8]) -> [u8; 64]

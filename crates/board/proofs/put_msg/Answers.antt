@@ -7,5 +7,5 @@ pub returns : goal.returns
 returns c =
     let m = c.args.m in
     let len : length m.pairs ≡ 32 = search rules in
-    c.put_pairs.ensures
+    c.put_bytes.ensures
     ∙ head_tail c.args.s.now (m.kind ∷ m.row ∷ m.bal ∷ m.node ∷ m.tube ∷ m.mbal ∷ m.mval ∷ m.count ∷ []) m.pairs 32 len (omega arith)

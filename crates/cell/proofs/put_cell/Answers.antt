@@ -7,5 +7,5 @@ pub returns : goal.returns
 returns c =
     let a = c.args in
     let len : length a.c.pairs ≡ 32 = search rules in
-    c.put_pairs.ensures
+    c.put_bytes.ensures
     ∙ head_tail a.s.now (a.c.maxbal ∷ a.c.maxvbal ∷ a.c.maxvval ∷ a.c.count ∷ []) a.c.pairs 32 len (omega arith)
