@@ -14,7 +14,7 @@ enum Work {
     Copy,
 }
 
-// The order's first byte; any but 0 and 1 asks for the copy.
+// The order's first byte, a number since a file brings it; any but 0 and 1 asks for the copy.
 impl From<u8> for Work {
     fn from(what: u8) -> Self {
         match what {

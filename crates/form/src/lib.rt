@@ -173,7 +173,7 @@ pub fn form_ok(m: Lent) -> bool
     ensures value { result ≡ in_form (lent m.entry) }
     ensures typed { IsTrue result → Typed m.entry.house.now }
 {
-    let h = m.house;
+    let h = m.house; // a short name, for the lines below
     let cells = h.nodes as usize * h.rows as usize;
     tables::house_ok(h)
         && board_ok(h, m.board)
@@ -187,7 +187,7 @@ pub fn gate_with(m: Lent, areas: bool) -> Result<(), Refusal>
     ensures number { number_in result ≡ first (gate_of (lent m.entry) areas) }
     ensures typed { OnOk result (Typed m.entry.house.now) }
 {
-    let h = m.house;
+    let h = m.house; // a short name, for the lines below
     if !tables::counts_ok(h) {
         return Err(Refusal::NotInForm);
     }

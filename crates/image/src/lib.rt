@@ -33,7 +33,7 @@ pub fn read_house(s: &[u8]) -> House
     }
 }
 
-// The counts of a house record into the first seven bytes.
+// The counts of a house record into the first seven bytes. By value, as the next.
 fn write_counts(h: House, out: &mut [u8])
     requires { 7 ≤ length out.old }
     ensures { out.new ≡ patch out.old 0 (counts h) }
@@ -60,7 +60,7 @@ pub fn write_house(h: House, out: &mut [u8])
     numbers::write_u16(out, 457, h.count);
 }
 
-// What was written is read back, for every house record that there is.
+// What was written is read back, for every house record that there is. By value: it gives back another one.
 pub fn read_back(h: House) -> House
     ensures { result ≡ h }
 {

@@ -7,7 +7,8 @@ ghost use Rattle.named.specs.Told.{told};
 
 use rules::{Refusal, Reply};
 
-// A reply's number and values: the paper's own numbers, for what prints them or sends them on.
+// A reply's number and values: the paper's own numbers, for what prints them or sends them on:
+// `told` of the definitions and the frames have numbers.
 #[derive(Clone, Copy, PartialEq, Eq)]
 pub struct Answer {
     pub number: u8,

@@ -1,7 +1,7 @@
 // A step as it is handed over: numbers of any size, in the words of the room; nothing is judged here.
 #![tactic(auto)]
 
-// A foreign 1b: mbal is 255 for none, and its pairs travel beside it.
+// A foreign 1b: mbal is 255 for none, and its pairs travel beside it. The count is a field of its own: a caller may say any, and it is tested.
 #[derive(Clone, Copy)]
 pub struct OneB {
     pub row: u32,

@@ -109,7 +109,7 @@ pub fn all_share(nodes: u8, faulty: u8, sets: &[u8]) -> bool
         .all(|p| all_pass(nodes, faulty, Asked::Shares(*p), sets))
 }
 
-// What opening says of a house record's tables: 2, 3, 4, or nothing if they pass.
+// What opening says of a house record's tables: 2, 3, 4, or nothing if they pass. `test_lists` says it of lists, which are numbers of any size until it has tested them.
 #[tactic(auto, using(crate::proofs::Counted::counted))]
 pub fn test_tables(h: &House) -> Result<(), Refusal>
     requires { counts h.now ≡ true }

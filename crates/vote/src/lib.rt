@@ -127,11 +127,11 @@ pub fn act_2av(
     let k = cell::place(house.rows, bid.row, node);
     board::post(house, board, board::bare(Kind::TwoAv, bid, node));
     let mut sent = cell::cell_at(cells, k);
-    let pairs = sent.pairs;
+    let pairs = sent.pairs; // the check takes an array's field by way of a variable, as below
     let held = pairs::moved(pairs, sent.count, bid.tube, bid.ballot);
     sent.maxbal = bid.ballot.0;
     sent.count = held.count;
-    let pairs = held.pairs;
+    let pairs = held.pairs; // as above
     sent.pairs = pairs;
     cell::set_cell(cells, k, sent);
 }
