@@ -25,11 +25,11 @@ pub enum Due {
     Nothing, // the sheet has ended
 }
 
-// The sets of one list, in fixed memory.
+// The sets of one list, in fixed memory. Its fields are open, as `headed`, which docs/SLIPS.md names, took them before: a count above 65 holds 65.
 #[derive(Clone, Copy)]
 pub struct Listed {
-    sets: [u32; 65],
-    count: usize,
+    pub sets: [u32; 65],
+    pub count: usize,
 }
 
 impl Listed {
