@@ -1,11 +1,11 @@
 -- How the code holds a sheet's headings, and what it promises of opening.
-use Rattle.std.specs.Prelude.{◌≡◌, List, ℕ, ◌≤◌, [], ◌∷◌, take}
+use Rattle.std.specs.Prelude.{◌≡◌, List, ℕ, ◌+◌, ◌≤◌, [], ◌∷◌, take}
 use Rattle.rules.specs.Lent.{Memory}
 use Rattle.rules.specs.Replies.{open_reply}
 use Rattle.closing.specs.Printed.{answer_text}
 use Rattle.page.specs.Sheet as sheet
 use Rattle.page.specs.declared.Due.{Due}
-use Rattle.page.specs.declared.Due.TheVariants.{Nodes, Faulty, Rows, Capacity, Quorum, Weak, Weaks, Step, Nothing}
+use Rattle.page.specs.declared.Due.TheVariants.{Nodes, Faulty, Rows, Capacity, Quorum, Weak, Weaks, Step, Nothing, Later}
 use Rattle.page.specs.declared.Listed.{Listed}
 use Rattle.page.specs.declared.Heads.{Heads}
 
@@ -20,6 +20,7 @@ due_of Weak = 5
 due_of Weaks = 6
 due_of Step = 7
 due_of Nothing = 8
+due_of (Later n) = 9 + n
 
 -- the sets of a list: all that are held, if its count is higher
 abbrev pub sets_of : Listed → List ℕ

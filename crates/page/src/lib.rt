@@ -11,7 +11,7 @@ use named::Answer;
 use open::Plan;
 use rules::House;
 
-// What is due next.
+// What is due next. `headed`, and `take_byte` and `finish` above it, which docs/ name, take any number here: `Later` has those past the nine in use.
 #[derive(Clone, Copy, PartialEq, Eq)]
 pub enum Due {
     Nodes,
@@ -23,6 +23,7 @@ pub enum Due {
     Weaks, // one more weak set, or the line that begins the steps
     Step, // the room is open, and a step is due
     Nothing, // the sheet has ended
+    Later(u8), // the number 9 and so many more, which no sheet comes to
 }
 
 // The sets of one list, in fixed memory. Its fields are open, as `headed`, which docs/SLIPS.md names, took them before: a count above 65 holds 65.
@@ -99,6 +100,7 @@ pub fn headed(heads: &mut Heads, line: Line)
     let Line::Heading(heading) = line else {
         heads.due = match heads.due {
             Due::Weaks => Due::Step,
+            Due::Later(0..=1) => Due::Later(1), // 9, the sort of no heading, is followed by the next
             _ => Due::Nothing,
         };
         return;
