@@ -177,13 +177,20 @@ pub fn test_lists(nodes: u8, faulty: u8, quorums: &[u32], weaks: &[u32]) -> Resu
 
 // ---- intake
 
-// The scan numbered k is none of those before it. The number is a place in the lists, not their length.
+// The scan numbered k is none of those before it. The number is a place in the lists, not their length. Every call tests the intake, and by `all` over the places it took half as many
+// instructions again.
 pub fn scan_new(stations: &[u8], serials: &[u32], k: usize) -> bool
     requires k_in_bounds { k < length stations.now }
     requires k_in_bounds_2 { k < length serials.now }
     ensures { result ≡ new_scan stations.now serials.now k }
 {
-    (0..k).all(|j| (stations[j] != stations[k]) | (serials[j] != serials[k]))
+    let (station, serial) = (stations[k], serials[k]);
+    for j in 0..k {
+        if (stations[j] == station) & (serials[j] == serial) {
+            return false;
+        }
+    }
+    true
 }
 
 // The scans of a list differ from one another: each station has a serial beside it.
