@@ -22,7 +22,7 @@ pub const REPLY: usize = 472;
 // The front of a request: all but the lists and the areas, and how long those are.
 #[derive(Clone, Copy)]
 pub struct Request {
-    // A number: which call it names, docs/FRAMES.md says and `asked` tells.
+    // A number: which call it names, docs/FRAMES.md says and `which::found` tells.
     pub call: u8,
     pub arguments: [u32; 8],
     pub pairs: [u32; 32],
